@@ -1,7 +1,12 @@
--- Decimal numbers of at most 18 digits: which pairs they are, and their texts.
-use Rattle.std.specs.Prelude.{◌≡◌, ◌≢◌, ℕ, zero, suc, ◌+◌, ◌*◌, ◌/◌, ◌%◌, ◌^◌, ◌<◌, ◌≤◌, ℤ, pos, negsuc, unsigned_abs, List, [], ◌∷◌, ◌++◌, codes, decimal}
+-- Decimal numbers of at most 18 digits.
+use Rattle.std.specs.Prelude.{◌≡◌, ◌≢◌, ℕ, zero, suc, ◌%◌, ◌^◌, ◌<◌, ◌≤◌, ◌==◌, if◌then◌else◌, ℤ, pos, unsigned_abs, int_div}
+use Rattle.std.proofs.Math.Dec.{lit≤}
+use Rattle.std.proofs.Math.Nat.{one-le-pow}
+use std.Quotient.{cls}
+use Rattle.exact_fraction.specs.Fraction.{Fraction}
+use Rattle.exact_fraction.specs.Number.{ℚ}
 
--- the number coefficient / 10 ^ places
+-- the decimal number coefficient / 10 ^ places
 pub record Bound : Type 0 where
   pub coefficient : ℤ
   pub places : ℕ
@@ -9,38 +14,34 @@ pub record Bound : Type 0 where
 abbrev pub scaled : ℤ → ℕ → Bound
 scaled c p = record { coefficient = c; places = p }
 
+abbrev pub fraction_of : Bound → Fraction
+fraction_of b = record {
+  num = b.coefficient;
+  den = 10 ^ b.places;
+  positive = one-le-pow b.places 10 (lit≤ tt);
+}
+
+-- its exact value
+unfoldable pub value_of : Bound → ℚ
+value_of b = cls (fraction_of b)
+
 -- a bound: at most 18 digits, and at most 36 of them behind the point
 pub record IsBound (b : Bound) : Type 0 where
   pub digits : unsigned_abs b.coefficient < 10 ^ 18
   pub most : b.places ≤ 36
 
--- no fewer places would do: there are none, or the last digit is not 0
+-- fewer places would not do: there are none, or the last digit is not 0
 pub record IsCanonical (b : Bound) : Type 0 where
   pub least : 0 < b.places → unsigned_abs b.coefficient % 10 ≢ 0
 
--- a bound without places
+-- a bound that is a whole number
 pub record IsWhole (b : Bound) : Type 0 where
   pub bound : IsBound b
   pub canonical : IsCanonical b
   pub whole : b.places ≡ 0
 
--- the last p digits of n, with zeros in front where n has fewer
-abbrev pub last_digits : ℕ → ℕ → List ℕ
-last_digits zero n = []
-last_digits (suc p) n = last_digits p (n / 10) ++ (48 + n % 10) ∷ []
-
--- `-` where the number is negative
-abbrev pub sign_of : ℤ → List ℕ
-sign_of (pos _) = []
-sign_of (negsuc _) = codes "-"
-
--- a point and p digits, and nothing for p = 0
-abbrev pub behind_point : ℕ → ℕ → List ℕ
-behind_point zero n = []
-behind_point (suc p) n = codes "." ++ last_digits (suc p) n
-
--- the printed text of a decimal number
-abbrev pub text_of : Bound → List ℕ
-text_of b =
-    let size = unsigned_abs b.coefficient in
-    sign_of b.coefficient ++ decimal (size / 10 ^ b.places) ++ behind_point b.places size
+-- c / 10 ^ p in canonical form: without the zeros at the end of the digits behind the point
+abbrev pub canonical : ℤ → ℕ → Bound
+canonical c zero = scaled c 0
+canonical c (suc p) =
+    if unsigned_abs c % 10 == 0 then canonical (int_div c (pos 10)) p else scaled c (suc p)

@@ -1,1 +1,3 @@
 pub mod Bound
+pub mod Down
+pub mod Text

@@ -1,5 +1,6 @@
 ghost use Rattle.std.specs.Prelude.{◌≡◌, ◌<◌, ◌≤◌, ◌^◌, IsSome, IfSome, IfOk, unsigned_abs, ◌↔◌};
-ghost use Rattle.decimal18.specs.Bound.{scaled, IsBound, IsCanonical, text_of};
+ghost use Rattle.decimal18.specs.Bound.{scaled, canonical, IsBound, IsCanonical};
+ghost use Rattle.decimal18.specs.Text.{text_of};
 
 use crate::byte_list::Bytes;
 use itoa::Buffer;
@@ -33,6 +34,7 @@ impl Dec {
     pub fn new(coefficient: i64, places: u8) -> Option<Dec>
         requires whole { places ≡ 0 }
         ensures valid { IsSome result ↔ IsBound (scaled coefficient places) }
+        ensures value { IfSome result (λ d. d ≡ canonical coefficient places) }
     {
         if coefficient.unsigned_abs() < LIMIT {
             Some(Dec {

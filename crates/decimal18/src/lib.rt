@@ -7,3 +7,5 @@ mod decimal;
 pub use byte_list::Bytes;
 pub use decimal::Dec;
 pub use std::alloc::AllocError as OutOfMemory;
+mod sums;
+pub use sums::down_is_greatest;
