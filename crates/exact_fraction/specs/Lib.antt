@@ -1,0 +1,7 @@
+pub mod Whole
+pub mod Fraction
+pub mod FractionLaws
+pub mod Floor
+pub mod Inverse
+pub mod Number
+pub mod NumberLaws
