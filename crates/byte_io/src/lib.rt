@@ -1,0 +1,14 @@
+//! The traits by which a program meets the outside, and their implementations.
+//!
+//! A [`Source`] gives bytes and a [`Sink`] takes them, piece by piece. Each accounts for its failures
+//! by a count of faults: a call answers [`Failed`] only where the count rose.
+#![tactic(auto)]
+
+mod failed;
+mod sink;
+mod source;
+
+pub use failed::Failed;
+pub use sink::Sink;
+pub use source::Source;
+pub use std::alloc::AllocError as OutOfMemory;
