@@ -5,10 +5,13 @@
 #![tactic(auto)]
 
 mod failed;
+mod front;
 mod sink;
 mod source;
+mod sure_source;
 
 pub use failed::Failed;
 pub use sink::Sink;
 pub use source::Source;
+pub use sure_source::SureSource;
 pub use std::alloc::AllocError as OutOfMemory;
