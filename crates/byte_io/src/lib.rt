@@ -6,11 +6,14 @@
 
 mod failed;
 mod front;
+mod memory_source;
+mod schedule;
 mod sink;
 mod source;
 mod sure_source;
 
 pub use failed::Failed;
+pub use memory_source::MemorySource;
 pub use sink::Sink;
 pub use source::Source;
 pub use sure_source::SureSource;

@@ -1,4 +1,4 @@
-ghost use Rattle.std.specs.Prelude.{◌≡◌, ◌+◌, ◌≤◌, ◌<◌, ◌^◌, ◌++◌, ◌↔◌, min, length, take, drop, [], false, vec_len, IsTrue, IsOk, IfOk};
+ghost use Rattle.std.specs.Prelude.{◌≡◌, ◌+◌, ◌≤◌, ◌<◌, ◌^◌, ◌++◌, ◌↔◌, min, length, take, drop, [], false, vec_len, IsTrue, IsOk, IfOk, IfSome};
 ghost use Rattle.std.specs.Prelude.{Some};
 ghost use Rattle.std.specs.Io.{ReadsAtMost};
 ghost use Rattle.std.specs.Io.KnownBytes.{WriteAppends, ReadConsumes};
@@ -64,13 +64,15 @@ impl Source for SureSource {
     /// Never fails, and gives as many bytes as are left and fit.
     fn read(&mut self, piece: &mut [u8]) -> Result<usize, Failed>
         ensures sure { IsOk result }
-        ensures whole { IfOk result (λ n. n ≡ min (length (drop self.old.at self.old.bytes.items)) (length piece.new)) }
+        ensures whole { IfOk result (λ n. IfSome (⟦<SureSource as Source>⟧.left self.old) (λ bytes. n ≡ min (length bytes) (length piece.new))) }
 
         ensures bound { ReadsAtMost result piece.new }
-        ensures count { Counts self.old.at self.new.at result }
-        ensures taken { WriteAppends (Some (take self.old.at self.old.bytes.items)) (Some (take self.new.at self.new.bytes.items)) result piece.new }
-        ensures left { ReadConsumes (Some (drop self.old.at self.old.bytes.items)) (Some (drop self.new.at self.new.bytes.items)) result piece.new }
-        ensures end { MeetsEnd self.old.ended self.new.ended result piece.new }
+        ensures count { Counts (⟦<SureSource as Source>⟧.count self.old) (⟦<SureSource as Source>⟧.count self.new) result }
+        ensures taken { WriteAppends (⟦<SureSource as Source>⟧.taken self.old) (⟦<SureSource as Source>⟧.taken self.new) result piece.new }
+        ensures left { ReadConsumes (⟦<SureSource as Source>⟧.left self.old) (⟦<SureSource as Source>⟧.left self.new) result piece.new }
+        ensures taken_told { SameTold (⟦<SureSource as Source>⟧.taken self.old) (⟦<SureSource as Source>⟧.taken self.new) }
+        ensures left_told { SameTold (⟦<SureSource as Source>⟧.left self.old) (⟦<SureSource as Source>⟧.left self.new) }
+        ensures end { MeetsEnd (⟦<SureSource as Source>⟧.ended self.old) (⟦<SureSource as Source>⟧.ended self.new) result piece.new }
     {
         Ok(self.read_at_most(usize::MAX, piece))
     }
