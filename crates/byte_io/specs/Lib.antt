@@ -4,3 +4,4 @@ pub mod Source
 pub mod Sink
 pub mod Memory
 pub mod MemorySource
+pub mod MemorySink

@@ -45,7 +45,9 @@ impl SureSource {
     {
         let count = give(&self.bytes, self.at, most, piece);
         self.at += count;
-        self.ended = count == 0;
+        if !piece.is_empty() {
+            self.ended = count == 0;
+        }
         count
     }
 }
