@@ -1,5 +1,5 @@
 -- The schedule of an object in memory: the numbers of the calls that fail, and the lengths of the pieces that are given.
-use Rattle.std.specs.Prelude.{◌≡◌, ℕ, ◌+◌, ◌-◌, min, List, [], ◌∷◌}
+use Rattle.std.specs.Prelude.{ℕ, ◌+◌, min, List, [], ◌∷◌}
 use Rattle.byte_io.specs.Faults.{last_count}
 
 -- the number of the call that follows n calls: they are counted from 1, up to the last number
