@@ -1,12 +1,16 @@
 -- The laws of the numbers: a commutative ring with inverses, a total order that sums and products
 -- respect, and a floor.
 use Rattle.std.specs.Prelude.{◌≡◌, ℕ, ◌*◌, ◌<◌, Bool, true, false, ℤ, pos, negsuc, ◌+ℤ◌, ◌*ℤ◌, ◌≤ℤ◌, neg_ℤ, refl, ◌⊎◌}
-use Rattle.std.proofs.Common.{sym, ◌∙◌, ap, arith, inl, inr}
+use Rattle.std.proofs.Common.{sym, ◌∙◌, ap, arith, inl, inr, subst}
+use Rattle.std.proofs.lemmas.Bool.{true≢false}
+use Rattle.std.proofs.lemmas.Int.{ints}
 use Rattle.std.proofs.Math.Bool.{Bool-set}
+use Rattle.std.proofs.Math.IntN.{zero-*ℤ}
+use borrow.Author.Differences.{up, down}
 use lib.Dec.{T_prop}
 use mathlib.Core.HLevel.{Π_prop}
 use std.Quotient.{◌/◌, cls, eq/, /_set, /_rec, /_rec₂, /_elim_prop, /_elim_prop₂, /_elim_prop₃, effective}
-use Rattle.exact_fraction.specs.Whole.{diff_of, diff_same, push, le_from, le_same, scaled_le}
+use Rattle.exact_fraction.specs.Whole.{diff_of, diff_same, diff, diff_le, le_diff, push, le_from}
 use Rattle.exact_fraction.specs.Fraction.{Fraction, ◌≈◌, ◌≼◌, ◌⊕◌, ◌⊗◌, negated, whole, inverse, is_zero_ℤ, is_at_most}
 use Rattle.exact_fraction.specs.FractionLaws.{≈_prop, ≈-IsEquivRel, ≈_refl, ≼_refl, ≼_trans, ≼_antisym, ≼_total, ⊕_comm, ⊕_assoc, ⊕-≼, ⊗_comm, ⊗_assoc, ⊗-⊕, is_at_most-≼, ≼-is_at_most}
 use Rattle.exact_fraction.specs.Inverse.{⊗-inverse}
@@ -142,18 +146,74 @@ floor_ℚ-≤ z =
     /_elim_prop (λ x. z ≤ℤ floor_ℚ x → of_ℤ z ≤ℚ x) (λ x. Π_prop (λ _. ≤ℚ_prop _ _))
     (λ a h. ≤ℚ-of_≼ _ _ (floor-≤ z a h))
 
-pub ≤ℚ_total : (x y : ℚ) → ∥ ((x ≤ℚ y) ⊎ (y ≤ℚ x)) ∥₁
-≤ℚ_total = /_elim_prop₂ (λ x y. ∥ ((x ≤ℚ y) ⊎ (y ≤ℚ x)) ∥₁) (λ x y. squash₁) (λ a b. ∣ by a b (≼_total a b) ∣₁) where
-  by : (a b : Fraction) → (a ≼ b) ⊎ (b ≼ a) → (cls a ≤ℚ cls b) ⊎ (cls b ≤ℚ cls a)
-  by a b (inl h) = inl (≤ℚ-of_≼ a b h)
-  by a b (inr h) = inr (≤ℚ-of_≼ b a h)
-
 -- where the test says no, the other is not above
+turned : (a b : Fraction) → is_at_most a b ≡ false → (a ≼ b) ⊎ (b ≼ a) → b ≼ a
+turned a b h (inl k) = absurd (true≢false (sym (≼-is_at_most a b k) ∙ h))
+turned a b h (inr k) = k
+
 pub ≤ℚ-turned : (x y : ℚ) → is_at_most_ℚ x y ≡ false → y ≤ℚ x
-≤ℚ-turned = ?
+unfolding is_at_most_ℚ /_rec₂ /_rec
+≤ℚ-turned =
+    /_elim_prop₂ (λ x y. is_at_most_ℚ x y ≡ false → y ≤ℚ x) (λ x y. Π_prop (λ _. ≤ℚ_prop y x))
+    (λ a b h. ≤ℚ-of_≼ b a (turned a b h (≼_total a b)))
+
+pub ≤ℚ_total : (x y : ℚ) → (x ≤ℚ y) ⊎ (y ≤ℚ x)
+≤ℚ_total x y = by (is_at_most_ℚ x y) refl where
+  by : (b : Bool) → is_at_most_ℚ x y ≡ b → (x ≤ℚ y) ⊎ (y ≤ℚ x)
+  by true h = inl (record { holds = h })
+  by false h = inr (≤ℚ-turned x y h)
 
 -- ---- products and the order
 product_order : (a a' : ℤ) (b k k' m : ℕ) → (a *ℤ pos k') ≤ℤ (a' *ℤ pos k)
     → ((a *ℤ pos b) *ℤ pos (k' * m)) ≤ℤ ((a' *ℤ pos b) *ℤ pos (k * m))
 product_order a a' b k k' m h =
     le_from (b * m) _ _ _ _ h (rw (← diff_of a, ← diff_of a') (simp push (diff_same _ _ _ _ (omega arith))))
+
+product_raised : (a a' c : ℤ) (k k' m : ℕ) → pos 0 ≤ℤ c → (a *ℤ pos k') ≤ℤ (a' *ℤ pos k)
+    → ((a *ℤ c) *ℤ pos (k' * m)) ≤ℤ ((a' *ℤ c) *ℤ pos (k * m))
+product_raised a a' (pos b) k k' m c0 h = product_order a a' b k k' m h
+product_raised a a' (negsuc b) k k' m c0 h = absurd (omega (arith, ints))
+
+not_negative : (q : Fraction) → whole (pos 0) ≼ q → pos 0 ≤ℤ q.num
+not_negative q h =
+    let g : (pos 0 *ℤ pos q.den) ≤ℤ q.num = subst (λ n. (pos 0 *ℤ pos q.den) ≤ℤ n) (times_one q.num) h.at_most in
+    omega (arith, ints, zero-*ℤ (pos q.den))
+
+⊗-≼ : (q q' r : Fraction) → whole (pos 0) ≼ r → q ≼ q' → q ⊗ r ≼ q' ⊗ r
+unfolding ◌⊗◌
+⊗-≼ q q' r r0 h = record { at_most = product_raised q.num q'.num r.num q.den q'.den r.den (not_negative r r0) h.at_most }
+
+-- by a factor that is not negative
+pub *ℚ-≤ℚ : (x y z : ℚ) → of_ℤ (pos 0) ≤ℚ z → x ≤ℚ y → x *ℚ z ≤ℚ y *ℚ z
+unfolding ◌*ℚ◌ /_rec₂ /_rec
+*ℚ-≤ℚ =
+    /_elim_prop₃ (λ x y z. of_ℤ (pos 0) ≤ℚ z → x ≤ℚ y → x *ℚ z ≤ℚ y *ℚ z) (λ x y z. Π_prop (λ _. Π_prop (λ _. ≤ℚ_prop _ _)))
+    (λ a b c c0 h. ≤ℚ-of_≼ _ _ (⊗-≼ a b c (≼-of_≤ℚ (whole (pos 0)) c c0) (≼-of_≤ℚ a b h)))
+
+negative_order : (a a' : ℤ) (k k' : ℕ) → (a *ℤ pos k') ≤ℤ (a' *ℤ pos k) → (neg_ℤ a' *ℤ pos k) ≤ℤ (neg_ℤ a *ℤ pos k')
+negative_order a a' k k' h =
+    let g : (diff (up a) (down a) *ℤ pos k') ≤ℤ (diff (up a') (down a') *ℤ pos k) = rw (diff_of a, diff_of a') h in
+    rw (← diff_of a, ← diff_of a') (simp push (diff_le _ _ _ _ (omega (arith, le_diff _ _ _ _ (simp push at g)))))
+
+negated-≼ : (q r : Fraction) → q ≼ r → negated r ≼ negated q
+unfolding negated
+negated-≼ q r h = record { at_most = negative_order q.num r.num q.den r.den h.at_most }
+
+pub neg_ℚ-≤ℚ : (x y : ℚ) → x ≤ℚ y → neg_ℚ y ≤ℚ neg_ℚ x
+unfolding neg_ℚ /_rec
+neg_ℚ-≤ℚ =
+    /_elim_prop₂ (λ x y. x ≤ℚ y → neg_ℚ y ≤ℚ neg_ℚ x) (λ x y. Π_prop (λ _. ≤ℚ_prop _ _))
+    (λ a b h. ≤ℚ-of_≼ _ _ (negated-≼ a b (≼-of_≤ℚ a b h)))
+
+-- ---- whole numbers among the numbers
+pub of_ℤ-+ : (a b : ℤ) → of_ℤ (a +ℤ b) ≡ of_ℤ a +ℚ of_ℤ b
+unfolding ◌+ℚ◌ /_rec₂ /_rec ◌⊕◌
+of_ℤ-+ a b = eq/ (whole (a +ℤ b)) (whole a ⊕ whole b) (record { same = rw (times_one a, times_one b) refl })
+
+pub of_ℤ-* : (a b : ℤ) → of_ℤ (a *ℤ b) ≡ of_ℤ a *ℚ of_ℤ b
+unfolding ◌*ℚ◌ /_rec₂ /_rec ◌⊗◌
+of_ℤ-* a b = eq/ (whole (a *ℤ b)) (whole a ⊗ whole b) (record { same = refl })
+
+pub of_ℤ-neg : (a : ℤ) → of_ℤ (neg_ℤ a) ≡ neg_ℚ (of_ℤ a)
+unfolding neg_ℚ /_rec negated
+of_ℤ-neg a = refl
