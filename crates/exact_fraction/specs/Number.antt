@@ -31,6 +31,11 @@ neg_ℚ = /_rec /_set (λ a. cls (negated a)) (λ a b h. eq/ _ _ (negated-same a
 unfoldable pub inv_ℚ : ℚ → ℚ
 inv_ℚ = /_rec /_set (λ a. cls (inverse a)) (λ a b h. eq/ _ _ (inverse-same a b h))
 
+-- the quotient; by 0 it is 0, and means nothing
+infixl 7 ◌/ℚ◌
+abbrev pub ◌/ℚ◌ : ℚ → ℚ → ℚ
+x /ℚ y = x *ℚ inv_ℚ y
+
 unfoldable pub is_zero_ℚ : ℚ → Bool
 is_zero_ℚ = /_rec Bool-set (λ a. is_zero_ℤ a.num) is_zero-same
 
