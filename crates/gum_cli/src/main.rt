@@ -1,0 +1,8 @@
+//! The program `gumtree`: it reads a script of commands and writes one reply for each.
+#![tactic(auto)]
+
+mod command;
+mod name;
+mod reply;
+
+fn main(_rt: HostRuntime) {}
