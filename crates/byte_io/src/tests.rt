@@ -6,6 +6,8 @@ ghost use Rattle.byte_io.specs.Source.{Took};
 ghost use Rattle.byte_io.specs.Sink.{HasRoom, Wrote, WrotePart};
 
 use super::*;
+use std::io;
+use std::io::{ErrorKind, Read, Write};
 use std::test::Fail;
 
 // Writes all of `bytes`, in as many writes as the sink takes.
@@ -83,5 +85,77 @@ fn stops_at_a_failing_write(rt: HostRuntime) -> Result<(), Fail> {
     let mut sink = MemorySink::new(rt.alloc(), 40, [2].to_vec(rt.alloc())?)?;
     assert_eq!(rt; copy(&mut source, &mut sink, 10), Err(Failed));
     assert_eq!(rt; sink.written(), b"valu".as_slice());
+    Ok(())
+}
+
+// A reader that gives a byte, fails, and then is at its end.
+#[derive(Drop)]
+struct FaultyReader {
+    calls: u32,
+}
+
+impl Read for FaultyReader {
+    fn read(&mut self, buf: &mut [u8]) -> io::Result<usize> {
+        self.calls = self.calls.saturating_add(1);
+        match self.calls {
+            1 if !buf.is_empty() => {
+                buf[0] = b'x';
+                Ok(1)
+            }
+            2 => Err(ErrorKind::Interrupted.into()),
+            _ => Ok(0),
+        }
+    }
+}
+
+// A writer that takes nothing, fails, and then takes all.
+#[derive(Drop)]
+struct FaultyWriter {
+    calls: u32,
+}
+
+impl Write for FaultyWriter {
+    fn write(&mut self, buf: &[u8]) -> io::Result<usize> {
+        self.calls = self.calls.saturating_add(1);
+        match self.calls {
+            1 => Ok(0),
+            2 => Err(ErrorKind::Interrupted.into()),
+            _ => Ok(buf.len()),
+        }
+    }
+
+    fn flush(&mut self) -> io::Result<()> {
+        Ok(())
+    }
+}
+
+#[test]
+fn counts_the_faults_of_a_reader(rt: HostRuntime) {
+    let mut source = StdSource::new(FaultyReader { calls: 0 });
+    let mut sink = StdSink::new(FaultyWriter { calls: 2 });
+    assert_eq!(rt; copy(&mut source, &mut sink, 3), Err(Failed));
+    let mut sink = StdSink::new(FaultyWriter { calls: 2 });
+    let mut source = StdSource::new(FaultyReader { calls: 2 });
+    assert_eq!(rt; copy(&mut source, &mut sink, 3), Ok(true));
+}
+
+#[test]
+fn counts_the_faults_of_a_writer(rt: HostRuntime) {
+    let mut sink = StdSink::new(FaultyWriter { calls: 0 });
+    assert_eq!(rt; sink.write(b"ok\n"), Err(Failed));
+    assert_eq!(rt; sink.write(b"ok\n"), Err(Failed));
+    assert_eq!(rt; sink.write(b"ok\n"), Ok(3));
+    assert_eq!(rt; sink.write(b""), Ok(0));
+}
+
+#[test]
+fn copies_from_a_reader_to_a_writer(rt: HostRuntime) -> Result<(), Fail> {
+    let mut out = Vec::new(rt.alloc());
+    {
+        let mut source = StdSource::new(b"value Y\n".as_slice());
+        let mut sink = StdSink::new(&mut out);
+        assert_eq!(rt; copy(&mut source, &mut sink, 3), Ok(true));
+    }
+    assert_eq!(rt; out.as_slice(), b"value Y\n".as_slice());
     Ok(())
 }
