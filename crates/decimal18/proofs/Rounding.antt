@@ -39,7 +39,7 @@ finer_high x m p k small large =
     let top_shifted = value-shifted (pos (10 ^ 18)) (p + 1) k in
     let tenth : value_of (scaled (pos (10 ^ 18)) (p + 1)) ≡ value_of (scaled (pos (10 ^ 17)) p) = value-shifted (pos (10 ^ 17)) p 1 in
     let below : pos (10 ^ 17) ≤ℤ floor_at x p =
-        under_floor (pos (10 ^ 17)) p x (≤ℚ_trans _ _ _ (≤ℚ_same _ _ (sym tenth)) (under_value (pos (10 ^ 18)) (p + 1) x large)) in
+    under_floor (pos (10 ^ 17)) p x (≤ℚ_trans _ _ _ (≤ℚ_same _ _ (sym tenth)) (under_value (pos (10 ^ 18)) (p + 1) x large)) in
     ≤ℚ_trans _ _ _ (value-rises m (pos (10 ^ 18) *ℤ pos (10 ^ k)) ((p + 1) + k) (small_times m (10 ^ k) (one-le-pow k 10 (lit≤ tt)) small))
     (≤ℚ_trans _ _ _ (≤ℚ_same _ _ (top_shifted ∙ tenth)) (value-rises (pos (10 ^ 17)) (floor_at x p) p below))
 
@@ -48,8 +48,8 @@ pub finer_low : (x : ℚ) (m : ℤ) (p k : ℕ) → unsigned_abs m < 10 ^ 18 →
     → value_of (scaled m ((p + 1) + k)) ≤ℚ x → ⊥
 finer_low x m p k small low h =
     let g : value_of (scaled (neg_ℤ top) (p + 1)) ≤ℚ x =
-        ≤ℚ_trans _ _ _ (≤ℚ_same _ _ (sym (value-shifted (neg_ℤ top) (p + 1) k)))
-        (≤ℚ_trans _ _ _ (value-rises (neg_ℤ top *ℤ pos (10 ^ k)) m ((p + 1) + k) (large_times m (10 ^ k) (one-le-pow k 10 (lit≤ tt)) small)) h) in
+    ≤ℚ_trans _ _ _ (≤ℚ_same _ _ (sym (value-shifted (neg_ℤ top) (p + 1) k)))
+    (≤ℚ_trans _ _ _ (value-rises (neg_ℤ top *ℤ pos (10 ^ k)) m ((p + 1) + k) (large_times m (10 ^ k) (one-le-pow k 10 (lit≤ tt)) small)) h) in
     let f : neg_ℤ top ≤ℤ floor_at x (p + 1) = under_floor (neg_ℤ top) (p + 1) x g in
     omega (arith, ints)
 
@@ -100,12 +100,12 @@ whole_floor : (x : ℚ) → IsInRange x → has_18_digits (floor_at x 0) ≡ tru
 whole_floor x range =
     let low : neg_ℤ top ≤ℤ floor_at x 0 = under_floor (neg_ℤ top) 0 x (≤ℚ_trans _ _ _ (≤ℚ_same _ _ (value-whole (neg_ℤ top))) range.low) in
     let below : of_ℤ (floor_at x 0) ≤ℚ of_ℤ top =
-        ≤ℚ_trans _ _ _ (≤ℚ_same _ _ (sym (value-whole (floor_at x 0))))
-        (≤ℚ_trans _ _ _ (under_value (floor_at x 0) 0 x (≤ℤ_refl (floor_at x 0))) range.high) in
+    ≤ℚ_trans _ _ _ (≤ℚ_same _ _ (sym (value-whole (floor_at x 0))))
+    (≤ℚ_trans _ _ _ (under_value (floor_at x 0) 0 x (≤ℤ_refl (floor_at x 0))) range.high) in
     short (floor_at x 0) low (≤ℤ-of_≤ℚ _ _ below) where
-  short : (z : ℤ) → neg_ℤ top ≤ℤ z → z ≤ℤ top → has_18_digits z ≡ true
-  short (pos a) h k = lt-ltb _ _ (omega (arith, ints))
-  short (negsuc a) h k = lt-ltb _ _ (omega (arith, ints))
+      short : (z : ℤ) → neg_ℤ top ≤ℤ z → z ≤ℤ top → has_18_digits z ≡ true
+      short (pos a) h k = lt-ltb _ _ (omega (arith, ints))
+      short (negsuc a) h k = lt-ltb _ _ (omega (arith, ints))
 
 pub is_in_range-true : (x : ℚ) → is_in_range x ≡ true → IsInRange x
 unfolding is_in_range

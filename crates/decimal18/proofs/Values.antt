@@ -54,11 +54,13 @@ unfolding value_of ◌*ℚ◌ ◌⊗◌ /_rec₂ /_rec
 under_floor m p =
     /_elim_prop (λ x. value_of (scaled m p) ≤ℚ x → m ≤ℤ floor_at x p) (λ x. Π_prop (λ _. ≤ℤ_prop _ _))
     (λ q h. ≤floor_ℚ m _ (≤ℚ-of_≼ (whole m) (q ⊗ whole (pos (10 ^ p)))
-        (record { at_most = to_whole m q.num q.den (10 ^ p) (≼-of_≤ℚ (fraction_of (scaled m p)) q h).at_most })))
+    (record { at_most = to_whole m q.num q.den (10 ^ p) (≼-of_≤ℚ (fraction_of (scaled m p)) q h).at_most })))
 
 pub under_value : (m : ℤ) (p : ℕ) (x : ℚ) → m ≤ℤ floor_at x p → value_of (scaled m p) ≤ℚ x
 unfolding value_of ◌*ℚ◌ ◌⊗◌ /_rec₂ /_rec
 under_value m p =
     /_elim_prop (λ x. m ≤ℤ floor_at x p → value_of (scaled m p) ≤ℚ x) (λ x. Π_prop (λ _. ≤ℚ_prop _ _))
-    (λ q h. ≤ℚ-of_≼ (fraction_of (scaled m p)) q (record { at_most = from_whole m q.num q.den (10 ^ p)
-        (≼-of_≤ℚ (whole m) (q ⊗ whole (pos (10 ^ p))) (floor_ℚ-≤ m _ h)).at_most }))
+    (λ q h. ≤ℚ-of_≼ (fraction_of (scaled m p)) q (record {
+      at_most = from_whole m q.num q.den (10 ^ p)
+          (≼-of_≤ℚ (whole m) (q ⊗ whole (pos (10 ^ p))) (floor_ℚ-≤ m _ h)).at_most;
+    }))

@@ -1,5 +1,7 @@
-ghost use Rattle.std.specs.Prelude.{◌≡◌, ◌<◌, ◌≤◌, ◌^◌, IsSome, IfSome, IfOk, unsigned_abs, ◌↔◌};
-ghost use Rattle.decimal18.specs.Bound.{scaled, canonical, IsBound, IsCanonical};
+ghost use Rattle.std.specs.Prelude.{◌≡◌, ◌<◌, ◌≤◌, ◌^◌, ◌↔◌, Option, None, Some, IsSome, IfSome, IfOk, unsigned_abs};
+ghost use Rattle.exact_fraction.specs.Number.{ℚ, ◌+ℚ◌};
+ghost use Rattle.decimal18.specs.Bound.{Bound, scaled, value_of, canonical, IsBound, IsCanonical};
+ghost use Rattle.decimal18.specs.Down.{down, up, IsDown, IsUp, IsInRange};
 ghost use Rattle.decimal18.specs.Text.{text_of};
 
 use crate::byte_list::Bytes;
@@ -71,3 +73,46 @@ impl Dec {
         Bytes::from_slice(alloc, buffer.format(self.coefficient).as_bytes())
     }
 }
+
+// Whole numbers are added without rounding.
+fn whole_sum(a: Dec, b: Dec) -> Option<Dec>
+    ensures down { result ≡ down (value_of a +ℚ value_of b) }
+    ensures up { result ≡ up (value_of a +ℚ value_of b) }
+{
+    Dec::new(a.coefficient + b.coefficient, 0)
+}
+
+/// The greatest bound not above `a + b`, and `None` where the sum is below -(10^18 - 1) or above
+/// 10^18 - 1.
+#[tactic(auto, using(crate::proofs::Sums::down_is))]
+pub fn add_down(a: Dec, b: Dec) -> Option<Dec>
+    ensures exact { result ≡ down (value_of a +ℚ value_of b) }
+    ensures greatest { IfSome result (IsDown (value_of a +ℚ value_of b)) }
+    ensures defined { IsSome result ↔ IsInRange (value_of a +ℚ value_of b) }
+{
+    whole_sum(a, b)
+}
+
+/// The least bound not below `a + b`, and `None` where the sum is below -(10^18 - 1) or above
+/// 10^18 - 1.
+#[tactic(auto, using(crate::proofs::Sums::up_is))]
+pub fn add_up(a: Dec, b: Dec) -> Option<Dec>
+    ensures exact { result ≡ up (value_of a +ℚ value_of b) }
+    ensures least { IfSome result (IsUp (value_of a +ℚ value_of b)) }
+    ensures defined { IsSome result ↔ IsInRange (value_of a +ℚ value_of b) }
+{
+    whole_sum(a, b)
+}
+
+/// The law of `down`: it answers a bound exactly where that is the canonical greatest bound not above
+/// a number in range, and nothing exactly where the number is out of range.
+pub fn down_is_greatest()
+    ensures some { (x : ℚ) (b : Bound) → (down x ≡ Some b) ↔ (IsInRange x × IsDown x b × IsCanonical b) }
+    ensures none { (x : ℚ) → (down x ≡ None) ↔ (¬ IsInRange x) }
+{}
+
+/// The law of `up`, the mirror of `down`.
+pub fn up_is_least()
+    ensures some { (x : ℚ) (b : Bound) → (up x ≡ Some b) ↔ (IsInRange x × IsUp x b × IsCanonical b) }
+    ensures none { (x : ℚ) → (up x ≡ None) ↔ (¬ IsInRange x) }
+{}

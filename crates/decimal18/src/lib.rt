@@ -5,7 +5,5 @@ mod byte_list;
 mod decimal;
 
 pub use byte_list::Bytes;
-pub use decimal::Dec;
+pub use decimal::{Dec, add_down, add_up, down_is_greatest, up_is_least};
 pub use std::alloc::AllocError as OutOfMemory;
-mod sums;
-pub use sums::down_is_greatest;
