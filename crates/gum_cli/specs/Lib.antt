@@ -4,3 +4,4 @@ pub mod Formula
 pub mod Sums
 pub mod Sheet
 pub mod Script
+pub mod Run

@@ -4,5 +4,7 @@
 mod command;
 mod name;
 mod reply;
+mod respond;
+mod run;
 
 fn main(_rt: HostRuntime) {}
