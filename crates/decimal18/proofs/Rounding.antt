@@ -1,6 +1,6 @@
 -- `down` and `up` answer the greatest bound not above and the least bound not below, and each number
 -- has one such bound.
-use Rattle.std.specs.Prelude.{◌≡◌, ◌≢◌, ℕ, zero, suc, ◌+◌, ◌-◌, ◌*◌, ◌^◌, ◌<◌, ◌≤◌, ◌&&◌, Bool, true, false, cond, ℤ, pos, negsuc, ◌*ℤ◌, ◌≤ℤ◌, neg_ℤ, unsigned_abs, Option, None, Some, refl, ◌⊎◌, ◌↔◌}
+use Rattle.std.specs.Prelude.{◌≡◌, ℕ, zero, suc, ◌+◌, ◌-◌, ◌^◌, ◌<◌, ◌≤◌, Bool, true, false, cond, ℤ, pos, negsuc, ◌*ℤ◌, ◌≤ℤ◌, neg_ℤ, unsigned_abs, None, Some, refl, ◌⊎◌}
 use Rattle.std.proofs.Common.{sym, ap, subst, ◌∙◌, arith, inl, inr}
 use Rattle.std.proofs.Math.Nat.{one-le-pow}
 use Rattle.std.proofs.Math.Dec.{lit≤}
@@ -8,10 +8,10 @@ use Rattle.std.proofs.lemmas.Bool.{ltb-true, ltb-false, lt-ltb, cases_lt, and_pa
 use Rattle.std.proofs.lemmas.Option.{cond_some, none-some}
 use lib.Signed.{≤ℤ_refl}
 use Rattle.std.proofs.lemmas.Int.{ints}
-use Rattle.exact_fraction.specs.Number.{ℚ, of_ℤ, ◌≤ℚ◌, is_at_most_ℚ, neg_ℚ, floor_ℚ}
-use Rattle.exact_fraction.specs.NumberLaws.{≤ℚ_refl, ≤ℚ_trans, ≤ℚ_antisym, ≤ℚ_same, ≤ℤ-of_≤ℚ}
+use Rattle.exact_fraction.specs.Number.{ℚ, of_ℤ, ◌≤ℚ◌, is_at_most_ℚ}
+use Rattle.exact_fraction.specs.NumberLaws.{≤ℚ_trans, ≤ℚ_antisym, ≤ℚ_same, ≤ℤ-of_≤ℚ}
 use Rattle.decimal18.specs.Bound.{Bound, scaled, value_of, canonical, IsBound, IsCanonical}
-use Rattle.decimal18.specs.Down.{IsDown, IsUp, IsInRange, top, is_in_range, floor_at, has_18_digits, cut_off, down, up, negated}
+use Rattle.decimal18.specs.Down.{IsDown, IsInRange, top, is_in_range, floor_at, has_18_digits, cut_off, down}
 use Rattle.decimal18.proofs.Values.{value-shifted, value-rises, value-whole, under_floor, under_value}
 use Rattle.decimal18.proofs.Canonical.{IsReduced-canonical, one_canonical}
 

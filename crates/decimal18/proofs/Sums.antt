@@ -1,9 +1,9 @@
 -- Sums of whole numbers, which are whole numbers and are not rounded.
-use Rattle.std.specs.Prelude.{◌≡◌, ℕ, ◌^◌, ◌<◌, ◌≤◌, ℤ, pos, negsuc, ◌+ℤ◌, ◌≤ℤ◌, neg_ℤ, unsigned_abs, Option, None, Some, IsSome, IfSome, ◌↔◌, refl}
-use Rattle.std.proofs.Common.{sym, ap, subst, ◌∙◌, arith}
+use Rattle.std.specs.Prelude.{◌≡◌, ◌^◌, ◌<◌, ℤ, pos, negsuc, ◌+ℤ◌, ◌≤ℤ◌, neg_ℤ, unsigned_abs, Option, None, Some, IsSome, IfSome, ◌↔◌, refl}
+use Rattle.std.proofs.Common.{sym, ap, ◌∙◌, arith}
 use Rattle.std.proofs.lemmas.Int.{ints}
 use Rattle.std.proofs.lemmas.Bool.{false≢true}
-use Rattle.exact_fraction.specs.Number.{ℚ, of_ℤ, ◌+ℚ◌, ◌≤ℚ◌}
+use Rattle.exact_fraction.specs.Number.{ℚ, of_ℤ, ◌+ℚ◌}
 use Rattle.exact_fraction.specs.NumberLaws.{≤ℚ_trans, ≤ℚ_same, of_ℤ-≤ℚ, ≤ℤ-of_≤ℚ, of_ℤ-+}
 use Rattle.decimal18.specs.Bound.{Bound, scaled, value_of, canonical, IsBound, IsCanonical}
 use Rattle.decimal18.specs.Down.{IsDown, IsUp, IsInRange, top, down, up}

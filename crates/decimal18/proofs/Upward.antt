@@ -1,14 +1,14 @@
 -- `up` is the mirror of `down`.
-use Rattle.std.specs.Prelude.{◌≡◌, ℕ, zero, suc, ◌^◌, ◌<◌, ℤ, pos, negsuc, ◌*ℤ◌, neg_ℤ, unsigned_abs, Option, None, Some, refl}
+use Rattle.std.specs.Prelude.{◌≡◌, zero, suc, ℤ, pos, negsuc, ◌*ℤ◌, neg_ℤ, unsigned_abs, Option, None, Some, refl}
 use Rattle.std.specs.Option.{option_map}
 use Rattle.std.proofs.Common.{sym, ap, subst, ◌∙◌, arith}
 use Rattle.std.proofs.lemmas.Int.{ints}
 use Rattle.std.proofs.lemmas.Option.{none-some, same_Some}
-use std.Quotient.{cls, eq/, /_set, /_rec, /_elim_prop}
+use std.Quotient.{eq/, /_set, /_rec, /_elim_prop}
 use Rattle.exact_fraction.specs.Fraction as fraction
 use Rattle.exact_fraction.specs.Fraction.{Fraction, ◌≈◌}
 use Rattle.exact_fraction.specs.FractionLaws.{≈_refl}
-use Rattle.exact_fraction.specs.Number.{ℚ, of_ℤ, ◌≤ℚ◌, neg_ℚ}
+use Rattle.exact_fraction.specs.Number.{ℚ, ◌≤ℚ◌, neg_ℚ}
 use Rattle.exact_fraction.specs.NumberLaws.{≤ℚ_trans, ≤ℚ_same, neg_ℚ-≤ℚ, of_ℤ-neg}
 use Rattle.decimal18.specs.Bound.{Bound, scaled, fraction_of, value_of, IsBound, IsCanonical}
 use Rattle.decimal18.specs.Down.{IsDown, IsUp, IsInRange, top, down, up, negated}

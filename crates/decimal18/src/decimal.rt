@@ -1,12 +1,12 @@
-ghost use Rattle.std.specs.Prelude.{◌≡◌, ◌<◌, ◌≤◌, ◌^◌, ◌↔◌, Option, None, Some, IsSome, IfSome, IfOk, unsigned_abs};
-ghost use Rattle.exact_fraction.specs.Number.{ℚ, ◌+ℚ◌};
+ghost use Rattle.std.specs.Prelude.{◌≡◌, ◌<◌, ◌≤◌, ◌^◌, ◌↔◌, IsSome, IfSome, IfOk, unsigned_abs};
+ghost use Rattle.exact_fraction.specs.Number.{◌+ℚ◌};
 ghost use Rattle.decimal18.specs.Bound.{Bound, scaled, value_of, canonical, IsBound, IsCanonical};
 ghost use Rattle.decimal18.specs.Down.{down, up, IsDown, IsUp, IsInRange};
 ghost use Rattle.decimal18.specs.Text.{text_of};
 
-use crate::byte_list::Bytes;
+use crate::{Bytes, OutOfMemory};
 use itoa::Buffer;
-use std::alloc::{AllocError, Global};
+use std::alloc::Global;
 use std::marker::Model;
 
 /// The number `coefficient / 10^places`, with at most 18 digits and the least number of places.
@@ -60,13 +60,18 @@ impl Dec {
     pub fn places(self) -> u8
         ensures value { result ≡ self.places }
         ensures most { result ≤ 36 }
+        ensures canonical { IsCanonical self }
     {
         self.places
     }
 
     /// The text of the number: `-` where it is negative, the whole part, and for places above 0 a
     /// point and that many digits.
-    pub fn print(self, alloc: Global) -> Result<Bytes, AllocError>
+    ///
+    /// # Errors
+    ///
+    /// [`OutOfMemory`] where there is no memory for the text.
+    pub fn print(self, alloc: Global) -> Result<Bytes, OutOfMemory>
         ensures { IfOk result (λ text. text ≡ text_of self) }
     {
         let mut buffer = Buffer::new();
@@ -103,16 +108,3 @@ pub fn add_up(a: Dec, b: Dec) -> Option<Dec>
 {
     whole_sum(a, b)
 }
-
-/// The law of `down`: it answers a bound exactly where that is the canonical greatest bound not above
-/// a number in range, and nothing exactly where the number is out of range.
-pub fn down_is_greatest()
-    ensures some { (x : ℚ) (b : Bound) → (down x ≡ Some b) ↔ (IsInRange x × IsDown x b × IsCanonical b) }
-    ensures none { (x : ℚ) → (down x ≡ None) ↔ (¬ IsInRange x) }
-{}
-
-/// The law of `up`, the mirror of `down`.
-pub fn up_is_least()
-    ensures some { (x : ℚ) (b : Bound) → (up x ≡ Some b) ↔ (IsInRange x × IsUp x b × IsCanonical b) }
-    ensures none { (x : ℚ) → (up x ≡ None) ↔ (¬ IsInRange x) }
-{}

@@ -1,5 +1,5 @@
 use Rattle.decimal18.proofs.Upward.{up_some, some_up, up_none, none_up}
-use Rattle.decimal18.proofs.decimal.up_is_least.Goals as goal
+use Rattle.decimal18.proofs.laws.up_is_least.Goals as goal
 
 pub returns-clause-some : goal.returns-clause-some
 returns-clause-some c = λ x b. (up_some x b, λ h. some_up x b h.0 h.1 h.2)
