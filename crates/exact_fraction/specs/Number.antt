@@ -12,6 +12,10 @@ use Rattle.exact_fraction.specs.Floor.{floor, floor-same}
 abbrev pub ℚ : Type 0
 ℚ = Fraction / ◌≈◌
 
+-- the number that a fraction is of
+abbrev pub number_of : Fraction → ℚ
+number_of q = cls q
+
 -- a whole number
 abbrev pub of_ℤ : ℤ → ℚ
 of_ℤ z = cls (whole z)
