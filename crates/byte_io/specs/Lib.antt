@@ -1,0 +1,7 @@
+pub mod Told
+pub mod Faults
+pub mod Source
+pub mod Sink
+pub mod Memory
+pub mod MemorySource
+pub mod MemorySink

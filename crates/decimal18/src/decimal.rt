@@ -1,0 +1,73 @@
+ghost use Rattle.std.specs.Prelude.{◌≡◌, ◌<◌, ◌≤◌, ◌^◌, IsSome, IfSome, IfOk, unsigned_abs, ◌↔◌};
+ghost use Rattle.decimal18.specs.Bound.{scaled, canonical, IsBound, IsCanonical};
+ghost use Rattle.decimal18.specs.Text.{text_of};
+
+use crate::byte_list::Bytes;
+use itoa::Buffer;
+use std::alloc::{AllocError, Global};
+use std::marker::Model;
+
+/// The number `coefficient / 10^places`, with at most 18 digits and the least number of places.
+#[derive(Clone, Copy, Debug, PartialEq, Eq)]
+pub struct Dec {
+    coefficient: i64,
+    places: u8,
+}
+
+impl Model for Dec {
+    ghost use Rattle.decimal18.specs.Bound.{Bound, IsWhole, scaled};
+
+    ghost Value = { Bound };
+
+    ghost view = { λ d. record { coefficient = d.coefficient; places = d.places } };
+
+    ghost invariant = { λ d. IsWhole (scaled d.coefficient d.places) };
+
+    ghost inverse = { λ b. record { coefficient = b.coefficient; places = b.places } };
+}
+
+const LIMIT: u64 = 1_000_000_000_000_000_000;
+
+impl Dec {
+    /// The number `coefficient / 10^places`, and `None` where it is no bound.
+    /// In this version `places` has to be 0.
+    pub fn new(coefficient: i64, places: u8) -> Option<Dec>
+        requires whole { places ≡ 0 }
+        ensures valid { IsSome result ↔ IsBound (scaled coefficient places) }
+        ensures value { IfSome result (λ d. d ≡ canonical coefficient places) }
+    {
+        if coefficient.unsigned_abs() < LIMIT {
+            Some(Dec {
+                coefficient,
+                places,
+            })
+        } else {
+            None
+        }
+    }
+
+    /// The whole number that `10^places` divides.
+    pub fn coefficient(self) -> i64
+        ensures value { result ≡ self.coefficient }
+        ensures digits { unsigned_abs result < 10 ^ 18 }
+    {
+        self.coefficient
+    }
+
+    /// The number of digits behind the point.
+    pub fn places(self) -> u8
+        ensures value { result ≡ self.places }
+        ensures most { result ≤ 36 }
+    {
+        self.places
+    }
+
+    /// The text of the number: `-` where it is negative, the whole part, and for places above 0 a
+    /// point and that many digits.
+    pub fn print(self, alloc: Global) -> Result<Bytes, AllocError>
+        ensures { IfOk result (λ text. text ≡ text_of self) }
+    {
+        let mut buffer = Buffer::new();
+        Bytes::from_slice(alloc, buffer.format(self.coefficient).as_bytes())
+    }
+}

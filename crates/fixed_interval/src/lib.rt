@@ -1,0 +1,9 @@
+//! Spans: pairs of decimal numbers between which an exact number lies, and a counter of the steps
+//! that make them.
+#![tactic(auto)]
+
+mod counter;
+mod interval;
+
+pub use counter::Steps;
+pub use interval::{Overflow, Span, point};
