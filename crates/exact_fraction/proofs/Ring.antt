@@ -11,14 +11,14 @@
 --         ring (a ∷ b ∷ []) ((x0 :+ x1) :* (x0 :+ x1)) (x0 :* x0 :+ Whole (pos 2) :* (x0 :* x1) :+ x1 :* x1) refl
 --
 -- An equation that is not an identity, as x *ℚ inv_ℚ x ≡ 1, goes between two such calls by `ap`.
-use Rattle.std.specs.Prelude.{◌≡◌, ℕ, zero, suc, Bool, true, false, cond, List, [], ◌∷◌, ℤ, pos, negsuc, ◌+ℤ◌, ◌*ℤ◌, neg_ℤ, refl}
+use Rattle.std.specs.Prelude.{◌≡◌, ℕ, zero, suc, Bool, true, false, cond, List, [], ◌∷◌, ℤ, pos, negsuc, ◌+ℤ◌, ◌*ℤ◌, refl}
 use Rattle.std.proofs.Common.{sym, ◌∙◌, ap, ap₂}
-use Rattle.std.proofs.Math.Bool.{◌&&◌}
 use Rattle.std.proofs.Math.Dec.{leb, eqb}
 use Rattle.std.proofs.lemmas.Bool.{eqb-true, true≢false}
 use Rattle.exact_fraction.specs.Fraction.{is_zero_ℤ}
 use Rattle.exact_fraction.specs.Number.{ℚ, of_ℤ, ◌+ℚ◌, ◌*ℚ◌, neg_ℚ, is_zero_ℚ}
-use Rattle.exact_fraction.specs.NumberLaws.{+ℚ_comm, +ℚ_assoc, *ℚ_comm, *ℚ_assoc, *ℚ-+ℚ, +ℚ-zero, *ℚ-one, +ℚ-neg, of_ℤ-+, of_ℤ-*, is_zero_ℚ-≡}
+use Rattle.exact_fraction.specs.NumberLaws.{+ℚ_comm, +ℚ_assoc, *ℚ_comm, *ℚ_assoc, *ℚ-+ℚ, +ℚ-zero, *ℚ-one, +ℚ-neg, of_ℤ-+, of_ℤ-*}
+use Rattle.exact_fraction.proofs.Quotients.{is_zero_ℚ-≡}
 
 -- ---- terms, and what they are worth at a list of numbers
 infixl 6 ◌:+◌

@@ -1,6 +1,6 @@
--- The laws of the numbers: a commutative ring with inverses, a total order that sums and products
--- respect, and a floor.
-use Rattle.std.specs.Prelude.{◌≡◌, ℕ, zero, suc, ◌*◌, ◌<◌, Bool, true, false, ℤ, pos, negsuc, ◌+ℤ◌, ◌*ℤ◌, ◌≤ℤ◌, neg_ℤ, refl, ◌⊎◌}
+-- Lemmas on the numbers: a commutative ring with inverses, a total order that sums and products
+-- respect, whole numbers among them, and the floor.
+use Rattle.std.specs.Prelude.{◌≡◌, ℕ, ◌*◌, Bool, true, false, ℤ, pos, negsuc, ◌+ℤ◌, ◌*ℤ◌, ◌≤ℤ◌, neg_ℤ, refl, ◌⊎◌}
 use Rattle.std.proofs.Common.{sym, ◌∙◌, ap, arith, inl, inr, subst}
 use Rattle.std.proofs.lemmas.Bool.{true≢false}
 use Rattle.std.proofs.lemmas.Int.{ints}
@@ -9,13 +9,13 @@ use Rattle.std.proofs.Math.IntN.{zero-*ℤ}
 use borrow.Author.Differences.{up, down}
 use lib.Dec.{T_prop}
 use mathlib.Core.HLevel.{Π_prop}
-use std.Quotient.{◌/◌, cls, eq/, /_set, /_rec, /_rec₂, /_elim_prop, /_elim_prop₂, /_elim_prop₃, effective}
-use Rattle.exact_fraction.specs.Whole.{diff_of, diff_same, diff, diff_le, le_diff, push, le_from, le_both, le_same}
-use Rattle.exact_fraction.specs.Fraction.{Fraction, ◌≈◌, ◌≼◌, ◌⊕◌, ◌⊗◌, negated, whole, inverse, is_zero_ℤ, is_at_most}
-use Rattle.exact_fraction.specs.FractionLaws.{≈_prop, ≈-IsEquivRel, ≈_refl, ≼_refl, ≼_trans, ≼_antisym, ≼_total, ⊕_comm, ⊕_assoc, ⊕-≼, ⊗_comm, ⊗_assoc, ⊗-⊕, is_at_most-≼, ≼-is_at_most}
+use std.Quotient.{cls, eq/, /_set, /_rec, /_rec₂, /_elim_prop, /_elim_prop₂, /_elim_prop₃, effective}
+use Rattle.exact_fraction.specs.Whole.{diff_of, diff_same, diff, diff_le, le_diff, push, le_from}
+use Rattle.exact_fraction.specs.Fraction.{Fraction, ◌≈◌, ◌≼◌, ◌⊕◌, ◌⊗◌, negated, whole, is_at_most}
+use Rattle.exact_fraction.specs.FractionLaws.{≈_prop, ≈-IsEquivRel, ≼_refl, ≼_trans, ≼_antisym, ≼_total, ⊕_comm, ⊕_assoc, ⊕-≼, ⊗_comm, ⊗_assoc, ⊗-⊕, is_at_most-≼, ≼-is_at_most}
 use Rattle.exact_fraction.specs.Inverse.{⊗-inverse}
-use Rattle.exact_fraction.specs.Floor.{floor, ≤floor, floor-≤, times_one}
-use Rattle.exact_fraction.specs.Number.{ℚ, number_of, of_ℤ, ◌+ℚ◌, ◌*ℚ◌, ◌/ℚ◌, neg_ℚ, inv_ℚ, is_zero_ℚ, is_at_most_ℚ, ◌≤ℚ◌, floor_ℚ}
+use Rattle.exact_fraction.specs.Floor.{≤floor, floor-≤, times_one}
+use Rattle.exact_fraction.specs.Number.{ℚ, of_ℤ, ◌+ℚ◌, ◌*ℚ◌, neg_ℚ, inv_ℚ, is_zero_ℚ, is_at_most_ℚ, ◌≤ℚ◌, floor_ℚ}
 
 -- ---- fractions and numbers
 pub ≈-of_≡ : (q r : Fraction) → ◌≡◌ {A = ℚ} (cls q) (cls r) → q ≈ r
@@ -92,60 +92,6 @@ unfolding ◌*ℚ◌ inv_ℚ is_zero_ℚ /_rec₂ /_rec
     /_elim_prop (λ x. is_zero_ℚ x ≡ false → x *ℚ inv_ℚ x ≡ of_ℤ (pos 1)) (λ x. Π_prop (λ _. /_set _ _))
     (λ a h. eq/ _ _ (⊗-inverse a h))
 
--- ---- the test for 0
-zero_num : (q : Fraction) (z : ℤ) → q.num ≡ z → is_zero_ℤ z ≡ true → q ≈ whole (pos 0)
-zero_num q (pos zero) e h = record { same = rw (times_one q.num, e) (sym (zero-*ℤ (pos q.den))) }
-zero_num q (pos (suc n)) e h = absurd (true≢false (sym h))
-zero_num q (negsuc n) e h = absurd (true≢false (sym h))
-
-pub is_zero_ℚ-≡ : (x : ℚ) → is_zero_ℚ x ≡ true → x ≡ of_ℤ (pos 0)
-unfolding is_zero_ℚ /_rec
-is_zero_ℚ-≡ =
-    /_elim_prop (λ x. is_zero_ℚ x ≡ true → x ≡ of_ℤ (pos 0)) (λ x. Π_prop (λ _. /_set _ _))
-    (λ a h. eq/ a (whole (pos 0)) (zero_num a a.num refl h))
-
-pub ≡-is_zero_ℚ : (x : ℚ) → x ≡ of_ℤ (pos 0) → is_zero_ℚ x ≡ true
-unfolding is_zero_ℚ /_rec
-≡-is_zero_ℚ x h = ap is_zero_ℚ h
-
-pub ≢-is_zero_ℚ : (x : ℚ) → (x ≡ of_ℤ (pos 0) → ⊥) → is_zero_ℚ x ≡ false
-≢-is_zero_ℚ x h = by (is_zero_ℚ x) refl where
-  by : (b : Bool) → is_zero_ℚ x ≡ b → is_zero_ℚ x ≡ false
-  by true e = absurd (h (is_zero_ℚ-≡ x e))
-  by false e = e
-
--- ---- the quotient
-pub /ℚ-*ℚ : (x y : ℚ) → is_zero_ℚ y ≡ false → (x /ℚ y) *ℚ y ≡ x
-/ℚ-*ℚ x y y0 =
-    *ℚ_assoc x (inv_ℚ y) y ∙ ap (λ t. x *ℚ t) (*ℚ_comm (inv_ℚ y) y ∙ *ℚ-inv y y0) ∙ *ℚ-one x
-
-pub *ℚ-/ℚ : (x y : ℚ) → is_zero_ℚ y ≡ false → (x *ℚ y) /ℚ y ≡ x
-*ℚ-/ℚ x y y0 = *ℚ_assoc x y (inv_ℚ y) ∙ ap (λ t. x *ℚ t) (*ℚ-inv y y0) ∙ *ℚ-one x
-
--- a fraction is the quotient of its parts
-times_den : (a : ℤ) (k : ℕ) → ((a *ℤ pos k) *ℤ pos 1) ≡ (a *ℤ pos (k * 1))
-times_den a k = rw (times_one (a *ℤ pos k)) (ap (λ n. a *ℤ pos n) (omega arith))
-
-⊗-den : (q : Fraction) → q ⊗ whole (pos q.den) ≈ whole q.num
-unfolding ◌⊗◌
-⊗-den q = record { same = times_den q.num q.den }
-
-positive_not_zero : (k : ℕ) → 0 < k → is_zero_ℤ (pos k) ≡ false
-positive_not_zero zero h = absurd (omega arith)
-positive_not_zero (suc k) h = refl
-
-den_not_zero : (q : Fraction) → is_zero_ℚ (of_ℤ (pos q.den)) ≡ false
-unfolding is_zero_ℚ /_rec
-den_not_zero q = positive_not_zero q.den q.positive
-
-number_of-den : (q : Fraction) → number_of q *ℚ of_ℤ (pos q.den) ≡ of_ℤ q.num
-unfolding ◌*ℚ◌ /_rec₂ /_rec
-number_of-den q = eq/ (q ⊗ whole (pos q.den)) (whole q.num) (⊗-den q)
-
-pub number_of-parts : (q : Fraction) → number_of q ≡ of_ℤ q.num /ℚ of_ℤ (pos q.den)
-number_of-parts q =
-    sym (*ℚ-/ℚ (number_of q) (of_ℤ (pos q.den)) (den_not_zero q)) ∙ ap (λ t. t /ℚ of_ℤ (pos q.den)) (number_of-den q)
-
 -- ---- order
 pub ≤ℚ_refl : (x : ℚ) → x ≤ℚ x
 ≤ℚ_refl = /_elim_prop (λ x. x ≤ℚ x) (λ x. ≤ℚ_prop x x) (λ a. ≤ℚ-of_≼ a a (≼_refl a))
@@ -187,10 +133,6 @@ of_order a b h = rw (times_one a, times_one b) at h
 pub ≤ℤ-of_≤ℚ : (a b : ℤ) → of_ℤ a ≤ℚ of_ℤ b → a ≤ℤ b
 ≤ℤ-of_≤ℚ a b h = of_order a b (≼-of_≤ℚ (whole a) (whole b) h).at_most
 
-pub of_ℤ-injective : (a b : ℤ) → of_ℤ a ≡ of_ℤ b → a ≡ b
-of_ℤ-injective a b h =
-    le_both a b (≤ℤ-of_≤ℚ a b (≤ℚ_same _ _ h)) (≤ℤ-of_≤ℚ b a (≤ℚ_same _ _ (sym h)))
-
 -- ---- floor: a whole number is not above x exactly where it is not above the floor of x
 pub ≤floor_ℚ : (z : ℤ) (x : ℚ) → of_ℤ z ≤ℚ x → z ≤ℤ floor_ℚ x
 unfolding floor_ℚ /_rec
@@ -203,18 +145,6 @@ unfolding floor_ℚ /_rec
 floor_ℚ-≤ z =
     /_elim_prop (λ x. z ≤ℤ floor_ℚ x → of_ℤ z ≤ℚ x) (λ x. Π_prop (λ _. ≤ℚ_prop _ _))
     (λ a h. ≤ℚ-of_≼ _ _ (floor-≤ z a h))
-
-le_refl : (z : ℤ) → z ≤ℤ z
-le_refl z = le_same z z refl
-
-pub floor_ℚ-of_ℤ : (z : ℤ) → floor_ℚ (of_ℤ z) ≡ z
-floor_ℚ-of_ℤ z =
-    le_both (floor_ℚ (of_ℤ z)) z
-    (≤ℤ-of_≤ℚ (floor_ℚ (of_ℤ z)) z (floor_ℚ-≤ (floor_ℚ (of_ℤ z)) (of_ℤ z) (le_refl (floor_ℚ (of_ℤ z)))))
-    (≤floor_ℚ z (of_ℤ z) (≤ℚ_refl (of_ℤ z)))
-
-pub floor_ℚ-not_above : (x : ℚ) → of_ℤ (floor_ℚ x) ≤ℚ x
-floor_ℚ-not_above x = floor_ℚ-≤ (floor_ℚ x) x (le_refl (floor_ℚ x))
 
 -- where the test says no, the other is not above
 turned : (a b : Fraction) → is_at_most a b ≡ false → (a ≼ b) ⊎ (b ≼ a) → b ≼ a

@@ -1,5 +1,6 @@
 use std.Quotient.{eq/, cls-surjective}
-use Rattle.exact_fraction.specs.NumberLaws.{≈-of_≡, number_of-parts}
+use Rattle.exact_fraction.specs.NumberLaws.{≈-of_≡}
+use Rattle.exact_fraction.proofs.Quotients.{number_of-parts}
 use Rattle.exact_fraction.proofs.equal_fractions_are_one_number.Goals as goal
 
 pub returns-clause-one_number : goal.returns-clause-one_number

@@ -1,5 +1,5 @@
-use Rattle.exact_fraction.specs.NumberLaws.{is_zero_ℚ-≡, ≡-is_zero_ℚ, ≢-is_zero_ℚ, *ℚ-inv}
-use Rattle.exact_fraction.proofs.OrderLaws.{≡-/ℚ}
+use Rattle.exact_fraction.specs.NumberLaws.{*ℚ-inv}
+use Rattle.exact_fraction.proofs.Quotients.{is_zero_ℚ-≡, ≡-is_zero_ℚ, ≢-is_zero_ℚ, ≡-/ℚ}
 use Rattle.exact_fraction.proofs.numbers_have_quotients.Goals as goal
 
 pub returns : goal.returns

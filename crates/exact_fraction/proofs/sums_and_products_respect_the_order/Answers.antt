@@ -1,4 +1,5 @@
-use Rattle.exact_fraction.specs.NumberLaws.{+ℚ-≤ℚ_both, neg_ℚ-≤ℚ, *ℚ-≤ℚ, ≢-is_zero_ℚ}
+use Rattle.exact_fraction.specs.NumberLaws.{+ℚ-≤ℚ_both, neg_ℚ-≤ℚ, *ℚ-≤ℚ}
+use Rattle.exact_fraction.proofs.Quotients.{≢-is_zero_ℚ}
 use Rattle.exact_fraction.proofs.OrderLaws.{≤ℚ-difference, ≤ℚ-of_difference, *ℚ-≤ℚ_turned, square-not_negative, inv_ℚ-not_negative, ≤ℚ-/ℚ}
 use Rattle.exact_fraction.proofs.sums_and_products_respect_the_order.Goals as goal
 

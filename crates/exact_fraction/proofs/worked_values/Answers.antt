@@ -1,7 +1,6 @@
 use Rattle.std.specs.Prelude.{refl}
 use std.Quotient.{/_rec, /_rec₂}
-use Rattle.exact_fraction.specs.Fraction.{◌⊕◌, ◌⊗◌, negated, inverse}
-use Rattle.exact_fraction.specs.Floor.{floor}
+use Rattle.exact_fraction.specs.Fraction.{◌⊕◌, ◌⊗◌, negated, inverse, floor}
 use Rattle.exact_fraction.specs.Number.{◌+ℚ◌, ◌*ℚ◌, neg_ℚ, inv_ℚ, is_zero_ℚ, floor_ℚ}
 use Rattle.exact_fraction.proofs.Ring.{same_by_test}
 use Rattle.exact_fraction.proofs.worked_values.Goals as goal
