@@ -1,2 +1,3 @@
 pub mod OrderLaws
+pub mod Quotients
 pub mod Ring

@@ -1,11 +1,13 @@
 -- The order of the numbers by differences: x ≤ℚ y is had from a number d that is not negative with
 -- x +ℚ d ≡ y (`≤ℚ_by`), where the equation is one call of `ring`.
-use Rattle.std.specs.Prelude.{◌≡◌, Bool, true, false, List, [], ◌∷◌, ℤ, pos, ◌⊎◌, ◌↔◌, refl}
+use Rattle.std.specs.Prelude.{◌≡◌, false, [], ◌∷◌, ℤ, pos, ◌≤ℤ◌, ◌⊎◌, ◌↔◌, refl}
 use Rattle.std.proofs.Common.{sym, ◌∙◌, ap, subst, inl, inr}
 use Rattle.std.proofs.lemmas.Bool.{true≢false}
-use Rattle.exact_fraction.specs.Number.{ℚ, of_ℤ, ◌+ℚ◌, ◌*ℚ◌, ◌/ℚ◌, neg_ℚ, inv_ℚ, is_zero_ℚ, ◌≤ℚ◌}
-use Rattle.exact_fraction.specs.NumberLaws.{+ℚ-zero, +ℚ-≤ℚ, +ℚ-≤ℚ_both, *ℚ_comm, *ℚ-≤ℚ, *ℚ-inv, ≤ℚ_refl, ≤ℚ_trans, ≤ℚ_antisym, ≤ℚ_total, ≡-is_zero_ℚ, ≢-is_zero_ℚ, /ℚ-*ℚ, *ℚ-/ℚ}
-use Rattle.exact_fraction.proofs.Ring.{Term, Whole, ◌:+◌, ◌:-◌, ◌:*◌, Minus, x0, x1, x2, x3, ring}
+use Rattle.exact_fraction.specs.Number.{ℚ, of_ℤ, ◌+ℚ◌, ◌*ℚ◌, ◌/ℚ◌, neg_ℚ, inv_ℚ, is_zero_ℚ, ◌≤ℚ◌, floor_ℚ}
+use Rattle.exact_fraction.specs.Whole.{le_both, le_same}
+use Rattle.exact_fraction.specs.NumberLaws.{+ℚ-≤ℚ, *ℚ_comm, *ℚ-≤ℚ, *ℚ-inv, ≤ℚ_refl, ≤ℚ_trans, ≤ℚ_same, ≤ℚ_total, ≤ℤ-of_≤ℚ, ≤floor_ℚ, floor_ℚ-≤}
+use Rattle.exact_fraction.proofs.Quotients.{≡-is_zero_ℚ, ≢-is_zero_ℚ, /ℚ-*ℚ, *ℚ-/ℚ}
+use Rattle.exact_fraction.proofs.Ring.{Whole, ◌:+◌, ◌:-◌, ◌:*◌, Minus, x0, x1, x2, ring}
 
 -- ---- along equations
 pub ≤ℚ_left : (x x' y : ℚ) → x ≡ x' → x' ≤ℚ y → x ≤ℚ y
@@ -74,10 +76,6 @@ pub *ℚ-between : (x z y w : ℚ) → x ≤ℚ z → z ≤ℚ y
   by (inr w0) = inr (*ℚ-≤ℚ_turned z y w w0 k, *ℚ-≤ℚ_turned x z w w0 h)
 
 -- ---- inverses
--- a factor that is not 0 is cancelled
-pub *ℚ_cancel : (x y z : ℚ) → is_zero_ℚ z ≡ false → x *ℚ z ≡ y *ℚ z → x ≡ y
-*ℚ_cancel x y z z0 h = sym (*ℚ-/ℚ x z z0) ∙ ap (λ t. t /ℚ z) h ∙ *ℚ-/ℚ y z z0
-
 inv_ℚ_zero : (x : ℚ) → is_zero_ℚ x ≡ false → inv_ℚ x ≡ of_ℤ (pos 0) → x ≡ of_ℤ (pos 0)
 inv_ℚ_zero x n h =
     sym (/ℚ-*ℚ x x n) ∙ ap (λ t. (x *ℚ t) *ℚ x) h
@@ -101,20 +99,35 @@ pub ≤ℚ_cancel : (x y z : ℚ) → of_ℤ (pos 0) ≤ℚ z → is_zero_ℚ z 
     (≤ℚ_right _ ((y *ℚ z) /ℚ z) y (*ℚ-/ℚ y z n) (*ℚ-≤ℚ (x *ℚ z) (y *ℚ z) (inv_ℚ z) (inv_ℚ-not_negative z z0 n) h))
 
 -- ---- quotients
--- the quotient is the one number whose product with the divisor is x
-pub ≡-/ℚ : (q x y : ℚ) → is_zero_ℚ y ≡ false → (q ≡ x /ℚ y) ↔ (q *ℚ y ≡ x)
-≡-/ℚ q x y n = (λ h. ap (λ t. t *ℚ y) h ∙ /ℚ-*ℚ x y n, λ h. sym (*ℚ-/ℚ q y n) ∙ ap (λ t. t /ℚ y) h)
-
 pub /ℚ-≤ℚ : (x y z : ℚ) → of_ℤ (pos 0) ≤ℚ z → is_zero_ℚ z ≡ false → x ≤ℚ y → x /ℚ z ≤ℚ y /ℚ z
 /ℚ-≤ℚ x y z z0 n h = *ℚ-≤ℚ x y (inv_ℚ z) (inv_ℚ-not_negative z z0 n) h
 
 -- a positive divisor goes to the other side as a factor
 pub ≤ℚ-/ℚ : (x y z : ℚ) → of_ℤ (pos 0) ≤ℚ z → is_zero_ℚ z ≡ false → (x ≤ℚ y /ℚ z) ↔ (x *ℚ z ≤ℚ y)
-≤ℚ-/ℚ x y z z0 n =
-    (λ h. ≤ℚ_right _ ((y /ℚ z) *ℚ z) y (/ℚ-*ℚ y z n) (*ℚ-≤ℚ x (y /ℚ z) z z0 h),
-    λ h. ≤ℚ_left x ((x *ℚ z) /ℚ z) _ (sym (*ℚ-/ℚ x z n)) (/ℚ-≤ℚ (x *ℚ z) y z z0 n h))
+≤ℚ-/ℚ x y z z0 n = (
+  λ h. ≤ℚ_right _ ((y /ℚ z) *ℚ z) y (/ℚ-*ℚ y z n) (*ℚ-≤ℚ x (y /ℚ z) z z0 h),
+  λ h. ≤ℚ_left x ((x *ℚ z) /ℚ z) _ (sym (*ℚ-/ℚ x z n)) (/ℚ-≤ℚ (x *ℚ z) y z z0 n h),
+)
 
 pub /ℚ-≤ℚ_iff : (x y z : ℚ) → of_ℤ (pos 0) ≤ℚ z → is_zero_ℚ z ≡ false → (x /ℚ z ≤ℚ y) ↔ (x ≤ℚ y *ℚ z)
-/ℚ-≤ℚ_iff x y z z0 n =
-    (λ h. ≤ℚ_left x ((x /ℚ z) *ℚ z) _ (sym (/ℚ-*ℚ x z n)) (*ℚ-≤ℚ (x /ℚ z) y z z0 h),
-    λ h. ≤ℚ_right _ ((y *ℚ z) /ℚ z) y (*ℚ-/ℚ y z n) (/ℚ-≤ℚ x (y *ℚ z) z z0 n h))
+/ℚ-≤ℚ_iff x y z z0 n = (
+  λ h. ≤ℚ_left x ((x /ℚ z) *ℚ z) _ (sym (/ℚ-*ℚ x z n)) (*ℚ-≤ℚ (x /ℚ z) y z z0 h),
+  λ h. ≤ℚ_right _ ((y *ℚ z) /ℚ z) y (*ℚ-/ℚ y z n) (/ℚ-≤ℚ x (y *ℚ z) z z0 n h),
+)
+
+-- ---- whole numbers and the floor
+pub of_ℤ-injective : (a b : ℤ) → of_ℤ a ≡ of_ℤ b → a ≡ b
+of_ℤ-injective a b h =
+    le_both a b (≤ℤ-of_≤ℚ a b (≤ℚ_same _ _ h)) (≤ℤ-of_≤ℚ b a (≤ℚ_same _ _ (sym h)))
+
+le_refl : (z : ℤ) → z ≤ℤ z
+le_refl z = le_same z z refl
+
+pub floor_ℚ-of_ℤ : (z : ℤ) → floor_ℚ (of_ℤ z) ≡ z
+floor_ℚ-of_ℤ z =
+    le_both (floor_ℚ (of_ℤ z)) z
+    (≤ℤ-of_≤ℚ (floor_ℚ (of_ℤ z)) z (floor_ℚ-≤ (floor_ℚ (of_ℤ z)) (of_ℤ z) (le_refl (floor_ℚ (of_ℤ z)))))
+    (≤floor_ℚ z (of_ℤ z) (≤ℚ_refl (of_ℤ z)))
+
+pub floor_ℚ-not_above : (x : ℚ) → of_ℤ (floor_ℚ x) ≤ℚ x
+floor_ℚ-not_above x = floor_ℚ-≤ (floor_ℚ x) x (le_refl (floor_ℚ x))

@@ -11,14 +11,14 @@
 --         ring (a ∷ b ∷ []) ((x0 :+ x1) :* (x0 :+ x1)) (x0 :* x0 :+ Whole (pos 2) :* (x0 :* x1) :+ x1 :* x1) refl
 --
 -- An equation that is not an identity, as x *ℚ inv_ℚ x ≡ 1, goes between two such calls by `ap`.
-use Rattle.std.specs.Prelude.{◌≡◌, ℕ, zero, suc, Bool, true, false, cond, List, [], ◌∷◌, ℤ, pos, negsuc, ◌+ℤ◌, ◌*ℤ◌, neg_ℤ, refl}
+use Rattle.std.specs.Prelude.{◌≡◌, ℕ, zero, suc, Bool, true, false, cond, List, [], ◌∷◌, ℤ, pos, negsuc, ◌+ℤ◌, ◌*ℤ◌, refl}
 use Rattle.std.proofs.Common.{sym, ◌∙◌, ap, ap₂}
-use Rattle.std.proofs.Math.Bool.{◌&&◌}
 use Rattle.std.proofs.Math.Dec.{leb, eqb}
 use Rattle.std.proofs.lemmas.Bool.{eqb-true, true≢false}
 use Rattle.exact_fraction.specs.Fraction.{is_zero_ℤ}
-use Rattle.exact_fraction.specs.Number.{ℚ, of_ℤ, ◌+ℚ◌, ◌*ℚ◌, neg_ℚ}
+use Rattle.exact_fraction.specs.Number.{ℚ, of_ℤ, ◌+ℚ◌, ◌*ℚ◌, neg_ℚ, is_zero_ℚ}
 use Rattle.exact_fraction.specs.NumberLaws.{+ℚ_comm, +ℚ_assoc, *ℚ_comm, *ℚ_assoc, *ℚ-+ℚ, +ℚ-zero, *ℚ-one, +ℚ-neg, of_ℤ-+, of_ℤ-*}
+use Rattle.exact_fraction.proofs.Quotients.{is_zero_ℚ-≡}
 
 -- ---- terms, and what they are worth at a list of numbers
 infixl 6 ◌:+◌
@@ -277,6 +277,10 @@ vanishes-total env (m ∷ ms) h = vanishes_if env m ms (is_zero_ℤ m.coefficien
 pub same_by_difference : (x y : ℚ) → x +ℚ neg_ℚ y ≡ of_ℤ (pos 0) → x ≡ y
 same_by_difference x y h =
     +ℚ_unique (neg_ℚ y) x y (+ℚ_comm (neg_ℚ y) x ∙ h) (+ℚ_comm (neg_ℚ y) y ∙ +ℚ-neg y)
+
+-- the same by the test, which computes at numbers written out
+pub same_by_test : (x y : ℚ) → is_zero_ℚ (x +ℚ neg_ℚ y) ≡ true → x ≡ y
+same_by_test x y h = same_by_difference x y (is_zero_ℚ-≡ (x +ℚ neg_ℚ y) h)
 
 pub ring : (env : List ℚ) (l r : Term) → vanishes (poly (l :- r)) ≡ true → eval env l ≡ eval env r
 ring env l r h =

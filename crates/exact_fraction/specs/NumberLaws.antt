@@ -1,6 +1,6 @@
--- The laws of the numbers: a commutative ring with inverses, a total order that sums and products
--- respect, and a floor.
-use Rattle.std.specs.Prelude.{◌≡◌, ℕ, zero, suc, ◌*◌, ◌<◌, Bool, true, false, ℤ, pos, negsuc, ◌+ℤ◌, ◌*ℤ◌, ◌≤ℤ◌, neg_ℤ, refl, ◌⊎◌}
+-- Lemmas on the numbers: a commutative ring with inverses, a total order that sums and products
+-- respect, whole numbers among them, and the floor.
+use Rattle.std.specs.Prelude.{◌≡◌, ℕ, ◌*◌, Bool, true, false, ℤ, pos, negsuc, ◌+ℤ◌, ◌*ℤ◌, ◌≤ℤ◌, neg_ℤ, refl, ◌⊎◌}
 use Rattle.std.proofs.Common.{sym, ◌∙◌, ap, arith, inl, inr, subst}
 use Rattle.std.proofs.lemmas.Bool.{true≢false}
 use Rattle.std.proofs.lemmas.Int.{ints}
@@ -9,13 +9,13 @@ use Rattle.std.proofs.Math.IntN.{zero-*ℤ}
 use borrow.Author.Differences.{up, down}
 use lib.Dec.{T_prop}
 use mathlib.Core.HLevel.{Π_prop}
-use std.Quotient.{◌/◌, cls, eq/, /_set, /_rec, /_rec₂, /_elim_prop, /_elim_prop₂, /_elim_prop₃, effective}
+use std.Quotient.{cls, eq/, /_set, /_rec, /_rec₂, /_elim_prop, /_elim_prop₂, /_elim_prop₃, effective}
 use Rattle.exact_fraction.specs.Whole.{diff_of, diff_same, diff, diff_le, le_diff, push, le_from}
-use Rattle.exact_fraction.specs.Fraction.{Fraction, ◌≈◌, ◌≼◌, ◌⊕◌, ◌⊗◌, negated, whole, inverse, is_zero_ℤ, is_at_most}
-use Rattle.exact_fraction.specs.FractionLaws.{≈_prop, ≈-IsEquivRel, ≈_refl, ≼_refl, ≼_trans, ≼_antisym, ≼_total, ⊕_comm, ⊕_assoc, ⊕-≼, ⊗_comm, ⊗_assoc, ⊗-⊕, is_at_most-≼, ≼-is_at_most}
+use Rattle.exact_fraction.specs.Fraction.{Fraction, ◌≈◌, ◌≼◌, ◌⊕◌, ◌⊗◌, negated, whole, is_at_most}
+use Rattle.exact_fraction.specs.FractionLaws.{≈_prop, ≈-IsEquivRel, ≼_refl, ≼_trans, ≼_antisym, ≼_total, ⊕_comm, ⊕_assoc, ⊕-≼, ⊗_comm, ⊗_assoc, ⊗-⊕, is_at_most-≼, ≼-is_at_most}
 use Rattle.exact_fraction.specs.Inverse.{⊗-inverse}
-use Rattle.exact_fraction.specs.Floor.{floor, ≤floor, floor-≤, times_one}
-use Rattle.exact_fraction.specs.Number.{ℚ, of_ℤ, ◌+ℚ◌, ◌*ℚ◌, ◌/ℚ◌, neg_ℚ, inv_ℚ, is_zero_ℚ, is_at_most_ℚ, ◌≤ℚ◌, floor_ℚ}
+use Rattle.exact_fraction.specs.Floor.{≤floor, floor-≤, times_one}
+use Rattle.exact_fraction.specs.Number.{ℚ, of_ℤ, ◌+ℚ◌, ◌*ℚ◌, neg_ℚ, inv_ℚ, is_zero_ℚ, is_at_most_ℚ, ◌≤ℚ◌, floor_ℚ}
 
 -- ---- fractions and numbers
 pub ≈-of_≡ : (q r : Fraction) → ◌≡◌ {A = ℚ} (cls q) (cls r) → q ≈ r
@@ -91,36 +91,6 @@ unfolding ◌*ℚ◌ inv_ℚ is_zero_ℚ /_rec₂ /_rec
 *ℚ-inv =
     /_elim_prop (λ x. is_zero_ℚ x ≡ false → x *ℚ inv_ℚ x ≡ of_ℤ (pos 1)) (λ x. Π_prop (λ _. /_set _ _))
     (λ a h. eq/ _ _ (⊗-inverse a h))
-
--- ---- the test for 0
-zero_num : (q : Fraction) (z : ℤ) → q.num ≡ z → is_zero_ℤ z ≡ true → q ≈ whole (pos 0)
-zero_num q (pos zero) e h = record { same = rw (times_one q.num, e) (sym (zero-*ℤ (pos q.den))) }
-zero_num q (pos (suc n)) e h = absurd (true≢false (sym h))
-zero_num q (negsuc n) e h = absurd (true≢false (sym h))
-
-pub is_zero_ℚ-≡ : (x : ℚ) → is_zero_ℚ x ≡ true → x ≡ of_ℤ (pos 0)
-unfolding is_zero_ℚ /_rec
-is_zero_ℚ-≡ =
-    /_elim_prop (λ x. is_zero_ℚ x ≡ true → x ≡ of_ℤ (pos 0)) (λ x. Π_prop (λ _. /_set _ _))
-    (λ a h. eq/ a (whole (pos 0)) (zero_num a a.num refl h))
-
-pub ≡-is_zero_ℚ : (x : ℚ) → x ≡ of_ℤ (pos 0) → is_zero_ℚ x ≡ true
-unfolding is_zero_ℚ /_rec
-≡-is_zero_ℚ x h = ap is_zero_ℚ h
-
-pub ≢-is_zero_ℚ : (x : ℚ) → (x ≡ of_ℤ (pos 0) → ⊥) → is_zero_ℚ x ≡ false
-≢-is_zero_ℚ x h = by (is_zero_ℚ x) refl where
-  by : (b : Bool) → is_zero_ℚ x ≡ b → is_zero_ℚ x ≡ false
-  by true e = absurd (h (is_zero_ℚ-≡ x e))
-  by false e = e
-
--- ---- the quotient
-pub /ℚ-*ℚ : (x y : ℚ) → is_zero_ℚ y ≡ false → (x /ℚ y) *ℚ y ≡ x
-/ℚ-*ℚ x y y0 =
-    *ℚ_assoc x (inv_ℚ y) y ∙ ap (λ t. x *ℚ t) (*ℚ_comm (inv_ℚ y) y ∙ *ℚ-inv y y0) ∙ *ℚ-one x
-
-pub *ℚ-/ℚ : (x y : ℚ) → is_zero_ℚ y ≡ false → (x *ℚ y) /ℚ y ≡ x
-*ℚ-/ℚ x y y0 = *ℚ_assoc x y (inv_ℚ y) ∙ ap (λ t. x *ℚ t) (*ℚ-inv y y0) ∙ *ℚ-one x
 
 -- ---- order
 pub ≤ℚ_refl : (x : ℚ) → x ≤ℚ x
