@@ -4,5 +4,6 @@
 mod command;
 mod name;
 mod reply;
+mod words;
 
 fn main(_rt: HostRuntime) {}
