@@ -6,5 +6,6 @@ mod name;
 mod reply;
 mod respond;
 mod run;
+mod words;
 
 fn main(_rt: HostRuntime) {}
