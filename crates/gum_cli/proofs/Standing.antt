@@ -4,20 +4,8 @@ use Rattle.std.specs.Prelude.{if◌then◌else◌, find, is_some, bytes_eq, ◌�
 use Rattle.gum_cli.specs.Formula.{Formula, names_of}
 use Rattle.gum_cli.specs.Sheet.{Body, Input, Function, Row, body_of, has_row, span_through, span_of, span_of_body, span_of_formula}
 use Rattle.gum_cli.specs.Script.{first_unknown}
+use Rattle.gum_cli.specs.Cells.{UsesRows, IsStanding}
 use Rattle.gum_cli.specs.declared.reply.Evaluation.{Evaluation}
-
--- each name in the body is that of a row
-abbrev pub UsesRows : List Row → Body → Type 0
-UsesRows sheet (Input estimate uncertainty) = Unit {0}
-UsesRows sheet (Function f) = first_unknown sheet f ≡ None
-
-pub record IsStanding (sheet : List Row) : Type 0 where
-  -- as many turns as there are rows are enough
-  pub settled : (k : ℕ) (n : List ℕ) → length sheet ≤ k → span_through sheet k n ≡ span_of sheet n
-  -- each row uses rows that are there
-  pub closed : (n : List ℕ) (body : Body) → body_of sheet n ≡ Some body → UsesRows sheet body
-  -- each row has a span or a fault
-  pub found : (n : List ℕ) → is_some (span_of sheet n) ≡ has_row sheet n
 
 pub standing_empty : IsStanding []
 standing_empty = ?
