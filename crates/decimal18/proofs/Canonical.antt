@@ -1,17 +1,15 @@
 -- The canonical form keeps the value, and a value has only one.
-use Rattle.std.specs.Prelude.{◌≡◌, ◌≢◌, ℕ, zero, suc, ◌+◌, ◌-◌, ◌*◌, ◌/◌, ◌%◌, ◌^◌, ◌<◌, ◌≤◌, ◌==◌, Bool, true, false, cond, ℤ, pos, negsuc, ◌*ℤ◌, neg_ℤ, unsigned_abs, int_div, refl, ◌⊎◌}
+use Rattle.std.specs.Prelude.{◌≡◌, ℕ, zero, suc, ◌+◌, ◌-◌, ◌*◌, ◌/◌, ◌%◌, ◌^◌, ◌<◌, ◌≤◌, ◌==◌, Bool, true, false, cond, ℤ, pos, negsuc, ◌*ℤ◌, neg_ℤ, unsigned_abs, int_div, refl, ◌⊎◌}
 use Rattle.std.proofs.Common.{sym, ap, subst, ◌∙◌, arith, inl, inr}
 use Rattle.std.proofs.Math.IntN.{*ℤ_comm}
 use Rattle.std.proofs.Math.Nat.{eq_of_mul-eq-mul_right, one-le-pow, le_antisymm}
 use Rattle.std.proofs.Math.Dec.{lit≤}
 use Rattle.std.proofs.Math.Pow.{pow-add}
 use Rattle.std.proofs.lemmas.Bool.{eqb-false, cases_lt}
-use Rattle.std.proofs.lemmas.Int.{ints, unsigned_abs-mul}
+use Rattle.std.proofs.lemmas.Int.{unsigned_abs-mul}
 use Rattle.exact_fraction.specs.Whole.{same_cancel}
-use Rattle.exact_fraction.specs.Fraction.{Fraction}
-use Rattle.exact_fraction.specs.Number.{ℚ}
 use Rattle.exact_fraction.specs.NumberLaws.{≈-of_≡}
-use Rattle.decimal18.specs.Bound.{Bound, scaled, fraction_of, value_of, canonical, IsBound, IsCanonical}
+use Rattle.decimal18.specs.Bound.{Bound, scaled, fraction_of, value_of, canonical, IsCanonical}
 use Rattle.decimal18.proofs.Values.{value-shifted}
 
 negative_tenth : (q n : ℕ) → suc n ≡ q * 10 → (neg_ℤ (pos q) *ℤ pos 10) ≡ negsuc n

@@ -1,3 +1,5 @@
 pub mod Values
 pub mod Canonical
 pub mod Rounding
+pub mod Upward
+pub mod Sums

@@ -1,6 +1,6 @@
 -- `down` and `up` answer the greatest bound not above and the least bound not below, and each number
 -- has one such bound.
-use Rattle.std.specs.Prelude.{◌≡◌, ◌≢◌, ℕ, zero, suc, ◌+◌, ◌-◌, ◌*◌, ◌^◌, ◌<◌, ◌≤◌, ◌&&◌, Bool, true, false, cond, ℤ, pos, negsuc, ◌*ℤ◌, ◌≤ℤ◌, neg_ℤ, unsigned_abs, Option, None, Some, refl, ◌⊎◌, ◌↔◌}
+use Rattle.std.specs.Prelude.{◌≡◌, ℕ, zero, suc, ◌+◌, ◌-◌, ◌^◌, ◌<◌, ◌≤◌, Bool, true, false, cond, ℤ, pos, negsuc, ◌*ℤ◌, ◌≤ℤ◌, neg_ℤ, unsigned_abs, None, Some, refl, ◌⊎◌}
 use Rattle.std.proofs.Common.{sym, ap, subst, ◌∙◌, arith, inl, inr}
 use Rattle.std.proofs.Math.Nat.{one-le-pow}
 use Rattle.std.proofs.Math.Dec.{lit≤}
@@ -8,10 +8,10 @@ use Rattle.std.proofs.lemmas.Bool.{ltb-true, ltb-false, lt-ltb, cases_lt, and_pa
 use Rattle.std.proofs.lemmas.Option.{cond_some, none-some}
 use lib.Signed.{≤ℤ_refl}
 use Rattle.std.proofs.lemmas.Int.{ints}
-use Rattle.exact_fraction.specs.Number.{ℚ, of_ℤ, ◌≤ℚ◌, is_at_most_ℚ, neg_ℚ, floor_ℚ}
-use Rattle.exact_fraction.specs.NumberLaws.{≤ℚ_refl, ≤ℚ_trans, ≤ℚ_antisym, ≤ℚ_same, ≤ℤ-of_≤ℚ}
+use Rattle.exact_fraction.specs.Number.{ℚ, of_ℤ, ◌≤ℚ◌, is_at_most_ℚ}
+use Rattle.exact_fraction.specs.NumberLaws.{≤ℚ_trans, ≤ℚ_antisym, ≤ℚ_same, ≤ℤ-of_≤ℚ}
 use Rattle.decimal18.specs.Bound.{Bound, scaled, value_of, canonical, IsBound, IsCanonical}
-use Rattle.decimal18.specs.Down.{IsDown, IsUp, IsInRange, top, is_in_range, floor_at, has_18_digits, cut_off, down, up, negated}
+use Rattle.decimal18.specs.Down.{IsDown, IsInRange, top, is_in_range, floor_at, has_18_digits, cut_off, down}
 use Rattle.decimal18.proofs.Values.{value-shifted, value-rises, value-whole, under_floor, under_value}
 use Rattle.decimal18.proofs.Canonical.{IsReduced-canonical, one_canonical}
 
@@ -39,7 +39,7 @@ finer_high x m p k small large =
     let top_shifted = value-shifted (pos (10 ^ 18)) (p + 1) k in
     let tenth : value_of (scaled (pos (10 ^ 18)) (p + 1)) ≡ value_of (scaled (pos (10 ^ 17)) p) = value-shifted (pos (10 ^ 17)) p 1 in
     let below : pos (10 ^ 17) ≤ℤ floor_at x p =
-        under_floor (pos (10 ^ 17)) p x (≤ℚ_trans _ _ _ (≤ℚ_same _ _ (sym tenth)) (under_value (pos (10 ^ 18)) (p + 1) x large)) in
+    under_floor (pos (10 ^ 17)) p x (≤ℚ_trans _ _ _ (≤ℚ_same _ _ (sym tenth)) (under_value (pos (10 ^ 18)) (p + 1) x large)) in
     ≤ℚ_trans _ _ _ (value-rises m (pos (10 ^ 18) *ℤ pos (10 ^ k)) ((p + 1) + k) (small_times m (10 ^ k) (one-le-pow k 10 (lit≤ tt)) small))
     (≤ℚ_trans _ _ _ (≤ℚ_same _ _ (top_shifted ∙ tenth)) (value-rises (pos (10 ^ 17)) (floor_at x p) p below))
 
@@ -48,8 +48,8 @@ pub finer_low : (x : ℚ) (m : ℤ) (p k : ℕ) → unsigned_abs m < 10 ^ 18 →
     → value_of (scaled m ((p + 1) + k)) ≤ℚ x → ⊥
 finer_low x m p k small low h =
     let g : value_of (scaled (neg_ℤ top) (p + 1)) ≤ℚ x =
-        ≤ℚ_trans _ _ _ (≤ℚ_same _ _ (sym (value-shifted (neg_ℤ top) (p + 1) k)))
-        (≤ℚ_trans _ _ _ (value-rises (neg_ℤ top *ℤ pos (10 ^ k)) m ((p + 1) + k) (large_times m (10 ^ k) (one-le-pow k 10 (lit≤ tt)) small)) h) in
+    ≤ℚ_trans _ _ _ (≤ℚ_same _ _ (sym (value-shifted (neg_ℤ top) (p + 1) k)))
+    (≤ℚ_trans _ _ _ (value-rises (neg_ℤ top *ℤ pos (10 ^ k)) m ((p + 1) + k) (large_times m (10 ^ k) (one-le-pow k 10 (lit≤ tt)) small)) h) in
     let f : neg_ℤ top ≤ℤ floor_at x (p + 1) = under_floor (neg_ℤ top) (p + 1) x g in
     omega (arith, ints)
 
@@ -100,12 +100,12 @@ whole_floor : (x : ℚ) → IsInRange x → has_18_digits (floor_at x 0) ≡ tru
 whole_floor x range =
     let low : neg_ℤ top ≤ℤ floor_at x 0 = under_floor (neg_ℤ top) 0 x (≤ℚ_trans _ _ _ (≤ℚ_same _ _ (value-whole (neg_ℤ top))) range.low) in
     let below : of_ℤ (floor_at x 0) ≤ℚ of_ℤ top =
-        ≤ℚ_trans _ _ _ (≤ℚ_same _ _ (sym (value-whole (floor_at x 0))))
-        (≤ℚ_trans _ _ _ (under_value (floor_at x 0) 0 x (≤ℤ_refl (floor_at x 0))) range.high) in
+    ≤ℚ_trans _ _ _ (≤ℚ_same _ _ (sym (value-whole (floor_at x 0))))
+    (≤ℚ_trans _ _ _ (under_value (floor_at x 0) 0 x (≤ℤ_refl (floor_at x 0))) range.high) in
     short (floor_at x 0) low (≤ℤ-of_≤ℚ _ _ below) where
-  short : (z : ℤ) → neg_ℤ top ≤ℤ z → z ≤ℤ top → has_18_digits z ≡ true
-  short (pos a) h k = lt-ltb _ _ (omega (arith, ints))
-  short (negsuc a) h k = lt-ltb _ _ (omega (arith, ints))
+      short : (z : ℤ) → neg_ℤ top ≤ℤ z → z ≤ℤ top → has_18_digits z ≡ true
+      short (pos a) h k = lt-ltb _ _ (omega (arith, ints))
+      short (negsuc a) h k = lt-ltb _ _ (omega (arith, ints))
 
 pub is_in_range-true : (x : ℚ) → is_in_range x ≡ true → IsInRange x
 unfolding is_in_range

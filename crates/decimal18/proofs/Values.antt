@@ -1,20 +1,17 @@
 -- The values of decimal numbers: zeros at the end change none, the order of coefficients at one
 -- number of places is the order of values, and a floor is the greatest coefficient not above.
-use Rattle.std.specs.Prelude.{◌≡◌, ◌≢◌, ℕ, zero, suc, ◌+◌, ◌*◌, ◌/◌, ◌%◌, ◌^◌, ◌<◌, ◌≤◌, ◌==◌, Bool, true, false, ℤ, pos, negsuc, ◌+ℤ◌, ◌*ℤ◌, ◌≤ℤ◌, neg_ℤ, unsigned_abs, int_div, refl}
-use Rattle.std.proofs.Common.{sym, ap, subst, ◌∙◌, arith}
-use Rattle.std.proofs.Math.Dec.{lit≤}
-use Rattle.std.proofs.Math.Nat.{one-le-pow}
+use Rattle.std.specs.Prelude.{◌≡◌, ℕ, ◌+◌, ◌*◌, ◌^◌, ℤ, pos, ◌*ℤ◌, ◌≤ℤ◌, refl}
+use Rattle.std.proofs.Common.{subst, arith}
 use Rattle.std.proofs.Math.Pow.{pow-add}
-use Rattle.std.proofs.lemmas.Int.{ints, quot-rem}
 use lib.Dec.{T_prop}
 use mathlib.Core.HLevel.{Π_prop}
-use std.Quotient.{cls, eq/, /_rec, /_rec₂, /_elim_prop}
-use Rattle.exact_fraction.specs.Whole.{diff_of, diff_same, push, le_from, scaled_le}
-use Rattle.exact_fraction.specs.Fraction.{Fraction, ◌≈◌, ◌≼◌, ◌⊗◌, whole}
+use std.Quotient.{eq/, /_rec, /_rec₂, /_elim_prop}
+use Rattle.exact_fraction.specs.Whole.{diff_of, diff_same, push, le_from}
+use Rattle.exact_fraction.specs.Fraction.{◌⊗◌, whole}
 use Rattle.exact_fraction.specs.Floor.{times_one}
-use Rattle.exact_fraction.specs.Number.{ℚ, of_ℤ, ◌*ℚ◌, ◌≤ℚ◌, floor_ℚ}
+use Rattle.exact_fraction.specs.Number.{ℚ, of_ℤ, ◌*ℚ◌, ◌≤ℚ◌}
 use Rattle.exact_fraction.specs.NumberLaws.{≤ℚ-of_≼, ≼-of_≤ℚ, ≤ℚ_prop, ≤floor_ℚ, floor_ℚ-≤}
-use Rattle.decimal18.specs.Bound.{Bound, scaled, fraction_of, value_of}
+use Rattle.decimal18.specs.Bound.{scaled, fraction_of, value_of}
 use Rattle.decimal18.specs.Down.{floor_at}
 
 shifted : (m : ℤ) (k s n : ℕ) → n ≡ s * k → ((m *ℤ pos k) *ℤ pos s) ≡ (m *ℤ pos n)
@@ -54,11 +51,13 @@ unfolding value_of ◌*ℚ◌ ◌⊗◌ /_rec₂ /_rec
 under_floor m p =
     /_elim_prop (λ x. value_of (scaled m p) ≤ℚ x → m ≤ℤ floor_at x p) (λ x. Π_prop (λ _. ≤ℤ_prop _ _))
     (λ q h. ≤floor_ℚ m _ (≤ℚ-of_≼ (whole m) (q ⊗ whole (pos (10 ^ p)))
-        (record { at_most = to_whole m q.num q.den (10 ^ p) (≼-of_≤ℚ (fraction_of (scaled m p)) q h).at_most })))
+    (record { at_most = to_whole m q.num q.den (10 ^ p) (≼-of_≤ℚ (fraction_of (scaled m p)) q h).at_most })))
 
 pub under_value : (m : ℤ) (p : ℕ) (x : ℚ) → m ≤ℤ floor_at x p → value_of (scaled m p) ≤ℚ x
 unfolding value_of ◌*ℚ◌ ◌⊗◌ /_rec₂ /_rec
 under_value m p =
     /_elim_prop (λ x. m ≤ℤ floor_at x p → value_of (scaled m p) ≤ℚ x) (λ x. Π_prop (λ _. ≤ℚ_prop _ _))
-    (λ q h. ≤ℚ-of_≼ (fraction_of (scaled m p)) q (record { at_most = from_whole m q.num q.den (10 ^ p)
-        (≼-of_≤ℚ (whole m) (q ⊗ whole (pos (10 ^ p))) (floor_ℚ-≤ m _ h)).at_most }))
+    (λ q h. ≤ℚ-of_≼ (fraction_of (scaled m p)) q (record {
+      at_most = from_whole m q.num q.den (10 ^ p)
+          (≼-of_≤ℚ (whole m) (q ⊗ whole (pos (10 ^ p))) (floor_ℚ-≤ m _ h)).at_most;
+    }))

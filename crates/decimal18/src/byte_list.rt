@@ -1,6 +1,7 @@
 ghost use Rattle.std.specs.Prelude.{◌≡◌, [], ◌∷◌, ◌++◌, Ok, IfOk, OnOk, OnErr};
 
-use std::alloc::{AllocError, Global};
+use crate::OutOfMemory;
+use std::alloc::Global;
 use std::marker::Model;
 
 /// A list of bytes, as a name or a printed text.
@@ -18,9 +19,13 @@ impl Model for Bytes {
 }
 
 impl Bytes {
-    /// The list without bytes. It needs no memory yet.
-    pub fn new(alloc: Global) -> Result<Bytes, AllocError>
-        ensures { IfOk result (λ b. b ≡ []) }
+    /// The list without bytes. It takes no memory yet, so this is always `Ok`.
+    ///
+    /// # Errors
+    ///
+    /// None: the result has the form of the other calls that take an allocator.
+    pub fn new(alloc: Global) -> Result<Bytes, OutOfMemory>
+        ensures { result ≡ Ok [] }
     {
         Ok(Bytes {
             vec: Vec::new(alloc),
@@ -28,7 +33,11 @@ impl Bytes {
     }
 
     /// A copy of `bytes`.
-    pub fn from_slice(alloc: Global, bytes: &[u8]) -> Result<Bytes, AllocError>
+    ///
+    /// # Errors
+    ///
+    /// [`OutOfMemory`] where there is no memory for the copy.
+    pub fn from_slice(alloc: Global, bytes: &[u8]) -> Result<Bytes, OutOfMemory>
         ensures { IfOk result (λ b. b ≡ bytes.now) }
     {
         Ok(Bytes {
@@ -36,8 +45,12 @@ impl Bytes {
         })
     }
 
-    /// Puts `byte` at the end. Where there is no memory for it, the list stays as it was.
-    pub fn push(&mut self, byte: u8) -> Result<(), AllocError>
+    /// Puts `byte` at the end.
+    ///
+    /// # Errors
+    ///
+    /// [`OutOfMemory`] where there is no memory for it; the list stays as it was.
+    pub fn push(&mut self, byte: u8) -> Result<(), OutOfMemory>
         ensures ok { OnOk result (self.new ≡ self.old ++ byte ∷ []) }
         ensures err { OnErr result (self.new ≡ self.old) }
     {
@@ -45,6 +58,7 @@ impl Bytes {
         Ok(())
     }
 
+    /// The bytes in order.
     pub fn as_slice(&self) -> &[u8]
         ensures { result.now ≡ self.now }
     {

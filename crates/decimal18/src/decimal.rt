@@ -1,10 +1,12 @@
-ghost use Rattle.std.specs.Prelude.{◌≡◌, ◌<◌, ◌≤◌, ◌^◌, IsSome, IfSome, IfOk, unsigned_abs, ◌↔◌};
-ghost use Rattle.decimal18.specs.Bound.{scaled, canonical, IsBound, IsCanonical};
+ghost use Rattle.std.specs.Prelude.{◌≡◌, ◌<◌, ◌≤◌, ◌^◌, ◌↔◌, IsSome, IfSome, IfOk, unsigned_abs};
+ghost use Rattle.exact_fraction.specs.Number.{◌+ℚ◌};
+ghost use Rattle.decimal18.specs.Bound.{Bound, scaled, value_of, canonical, IsBound, IsCanonical};
+ghost use Rattle.decimal18.specs.Down.{down, up, IsDown, IsUp, IsInRange};
 ghost use Rattle.decimal18.specs.Text.{text_of};
 
-use crate::byte_list::Bytes;
+use crate::{Bytes, OutOfMemory};
 use itoa::Buffer;
-use std::alloc::{AllocError, Global};
+use std::alloc::Global;
 use std::marker::Model;
 
 /// The number `coefficient / 10^places`, with at most 18 digits and the least number of places.
@@ -58,16 +60,51 @@ impl Dec {
     pub fn places(self) -> u8
         ensures value { result ≡ self.places }
         ensures most { result ≤ 36 }
+        ensures canonical { IsCanonical self }
     {
         self.places
     }
 
     /// The text of the number: `-` where it is negative, the whole part, and for places above 0 a
     /// point and that many digits.
-    pub fn print(self, alloc: Global) -> Result<Bytes, AllocError>
+    ///
+    /// # Errors
+    ///
+    /// [`OutOfMemory`] where there is no memory for the text.
+    pub fn print(self, alloc: Global) -> Result<Bytes, OutOfMemory>
         ensures { IfOk result (λ text. text ≡ text_of self) }
     {
         let mut buffer = Buffer::new();
         Bytes::from_slice(alloc, buffer.format(self.coefficient).as_bytes())
     }
+}
+
+// Whole numbers are added without rounding.
+fn whole_sum(a: Dec, b: Dec) -> Option<Dec>
+    ensures down { result ≡ down (value_of a +ℚ value_of b) }
+    ensures up { result ≡ up (value_of a +ℚ value_of b) }
+{
+    Dec::new(a.coefficient + b.coefficient, 0)
+}
+
+/// The greatest bound not above `a + b`, and `None` where the sum is below -(10^18 - 1) or above
+/// 10^18 - 1.
+#[tactic(auto, using(crate::proofs::Sums::down_is))]
+pub fn add_down(a: Dec, b: Dec) -> Option<Dec>
+    ensures exact { result ≡ down (value_of a +ℚ value_of b) }
+    ensures greatest { IfSome result (IsDown (value_of a +ℚ value_of b)) }
+    ensures defined { IsSome result ↔ IsInRange (value_of a +ℚ value_of b) }
+{
+    whole_sum(a, b)
+}
+
+/// The least bound not below `a + b`, and `None` where the sum is below -(10^18 - 1) or above
+/// 10^18 - 1.
+#[tactic(auto, using(crate::proofs::Sums::up_is))]
+pub fn add_up(a: Dec, b: Dec) -> Option<Dec>
+    ensures exact { result ≡ up (value_of a +ℚ value_of b) }
+    ensures least { IfSome result (IsUp (value_of a +ℚ value_of b)) }
+    ensures defined { IsSome result ↔ IsInRange (value_of a +ℚ value_of b) }
+{
+    whole_sum(a, b)
 }

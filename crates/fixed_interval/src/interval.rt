@@ -1,12 +1,14 @@
-ghost use Rattle.std.specs.Prelude.{◌≡◌, ◌+◌};
-ghost use Rattle.fixed_interval.specs.Interval.{point_span};
+ghost use Rattle.std.specs.Prelude.{◌≡◌, ◌+◌, Result, Ok, Err, IfOk};
+ghost use Rattle.std.specs.Option.{ForSome, ok_or};
+ghost use Rattle.exact_fraction.specs.Number.{ℚ, ◌+ℚ◌};
+ghost use Rattle.fixed_interval.specs.Interval.{Encloses, IsOrdered, from_ends, point_span, sum_span};
 
 use crate::counter::Steps;
-use decimal18::Dec;
+use decimal18::{Dec, add_down, add_up};
 use std::marker::Model;
 use std::sync::ledger::Ledger;
 
-/// Two decimal numbers, the lower end not above the upper one.
+/// The exact numbers between two decimal numbers, the lower of which is not above the upper one.
 #[derive(Clone, Copy, Debug, PartialEq, Eq)]
 pub struct Span {
     lo: Dec,
@@ -14,11 +16,13 @@ pub struct Span {
 }
 
 impl Model for Span {
-    ghost use Rattle.fixed_interval.specs.Interval.{Interval};
+    ghost use Rattle.fixed_interval.specs.Interval.{Interval, IsOrdered};
 
     ghost Value = { Interval };
 
     ghost view = { λ s. record { lo = s.lo; hi = s.hi } };
+
+    ghost invariant = { λ s. IsOrdered (record { lo = s.lo; hi = s.hi }) };
 
     ghost inverse = { λ s. record { lo = s.lo; hi = s.hi } };
 }
@@ -28,16 +32,31 @@ impl Model for Span {
 pub struct Overflow;
 
 impl Span {
+    /// The lower end.
     pub fn lo(&self) -> Dec
-        ensures { result ≡ self.now.lo }
+        ensures value { result ≡ self.now.lo }
+        ensures ordered { IsOrdered self.now }
     {
         self.lo
     }
 
+    /// The upper end.
     pub fn hi(&self) -> Dec
-        ensures { result ≡ self.now.hi }
+        ensures value { result ≡ self.now.hi }
+        ensures ordered { IsOrdered self.now }
     {
         self.hi
+    }
+
+    // The span of two rounded ends, where both are there.
+    fn from_ends(lo: Option<Dec>, hi: Option<Dec>) -> Result<Span, Overflow>
+        requires { ForSome (from_ends lo hi) IsOrdered }
+        ensures { result ≡ ok_or (from_ends lo hi) (record {}) }
+    {
+        match (lo, hi) {
+            (Some(lo), Some(hi)) => Ok(Span { lo, hi }),
+            _ => Err(Overflow),
+        }
     }
 }
 
@@ -48,4 +67,14 @@ pub fn point<L: Ledger>(d: Dec, steps: &mut Steps<L>) -> Span
 {
     steps.tick();
     Span { lo: d, hi: d }
+}
+
+/// The span of the sums of a number in `a` and a number in `b`, its ends rounded outwards.
+pub fn add<L: Ledger>(a: &Span, b: &Span, steps: &mut Steps<L>) -> Result<Span, Overflow>
+    ensures span { result ≡ ok_or (sum_span a.now b.now) (record {}) }
+    ensures encloses { (q r : ℚ) → Encloses a.now q → Encloses b.now r → IfOk result (λ s. Encloses s (q +ℚ r)) }
+    ensures ticks { steps.new ≡ steps.old + 1 }
+{
+    steps.tick();
+    Span::from_ends(add_down(a.lo, b.lo), add_up(a.hi, b.hi))
 }

@@ -6,4 +6,4 @@ mod counter;
 mod interval;
 
 pub use counter::Steps;
-pub use interval::{Overflow, Span, point};
+pub use interval::{Overflow, Span, add, point};

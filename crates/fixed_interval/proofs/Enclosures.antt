@@ -1,0 +1,72 @@
+-- What a span that was rounded outwards encloses.
+use Rattle.std.specs.Prelude.{◌≡◌, Option, None, Some, Result, IfOk, refl}
+use Rattle.std.specs.Option.{ok_or, ForSome}
+use Rattle.std.proofs.Common.{sym, ap, ◌∙◌}
+use Rattle.std.proofs.lemmas.Option.{none-some, same_Some}
+use Rattle.exact_fraction.specs.Number.{ℚ, ◌+ℚ◌, ◌≤ℚ◌}
+use Rattle.exact_fraction.specs.NumberLaws.{≤ℚ_trans, +ℚ-≤ℚ_both}
+use Rattle.decimal18.specs.Bound.{Bound, value_of}
+use Rattle.decimal18.specs.Down.{down, up}
+use Rattle.decimal18.proofs.Rounding.{down_some}
+use Rattle.decimal18.proofs.Upward.{up_some}
+use Rattle.fixed_interval.specs.Interval.{Interval, Encloses, IsOrdered, from_ends, outward, sum_span}
+
+-- both ends are the answers of `down` and `up`
+pub record IsOutward (least greatest : ℚ) (s : Interval) : Type 0 where
+  pub lo : down least ≡ Some s.lo
+  pub hi : up greatest ≡ Some s.hi
+
+ends_of : (l h : Option Bound) (s : Interval) → from_ends l h ≡ Some s → (l ≡ Some s.lo) × (h ≡ Some s.hi)
+ends_of None h s e = absurd (none-some s e)
+ends_of (Some lo) None s e = absurd (none-some s e)
+ends_of (Some lo) (Some hi) s e = (ap (λ t. Some t.lo) (same_Some _ s e), ap (λ t. Some t.hi) (same_Some _ s e))
+
+pub outward_ends : (least greatest : ℚ) (s : Interval) → outward least greatest ≡ Some s → IsOutward least greatest s
+unfolding outward
+outward_ends least greatest s e = let ends = ends_of (down least) (up greatest) s e in record { lo = ends.0; hi = ends.1 }
+
+-- the ends that were found are those of the span
+pub outward-ends : (least greatest : ℚ) (lo hi : Option Bound) → lo ≡ down least → hi ≡ up greatest
+    → from_ends lo hi ≡ outward least greatest
+unfolding outward
+outward-ends least greatest lo hi e f = rw (e, f) refl
+
+-- every exact result from the least to the greatest is enclosed
+pub outward_encloses : (least greatest : ℚ) (s : Interval) → outward least greatest ≡ Some s
+    → (q : ℚ) → least ≤ℚ q → q ≤ℚ greatest → Encloses s q
+outward_encloses least greatest s e q above below =
+    let ends = outward_ends least greatest s e in
+    record {
+      low = ≤ℚ_trans _ _ _ (down_some least s.lo ends.lo).1.not_above above;
+      high = ≤ℚ_trans _ _ _ below (up_some greatest s.hi ends.hi).1.not_below;
+    }
+
+pub outward_ordered : (least greatest : ℚ) (s : Interval) → outward least greatest ≡ Some s → least ≤ℚ greatest → IsOrdered s
+outward_ordered least greatest s e h =
+    let ends = outward_ends least greatest s e in
+    record { ordered = ≤ℚ_trans _ _ _ (down_some least s.lo ends.lo).1.not_above (≤ℚ_trans _ _ _ h (up_some greatest s.hi ends.hi).1.not_below) }
+
+pub sum_span_encloses : (a b s : Interval) → sum_span a b ≡ Some s → (q r : ℚ) → Encloses a q → Encloses b r → Encloses s (q +ℚ r)
+sum_span_encloses a b s e q r h k =
+    outward_encloses _ _ s e (q +ℚ r) (+ℚ-≤ℚ_both _ _ _ _ h.low k.low) (+ℚ-≤ℚ_both _ _ _ _ h.high k.high)
+
+-- ---- the answer of an operation
+pub outward_answer : {E : Type 0} (least greatest : ℚ) (lo hi : Option Bound) (r : Result Interval E) (error : E)
+    → lo ≡ down least → hi ≡ up greatest → r ≡ ok_or (from_ends lo hi) error → r ≡ ok_or (outward least greatest) error
+outward_answer least greatest lo hi r error e f h = h ∙ ap (λ o. ok_or o error) (outward-ends least greatest lo hi e f)
+
+pub outward_in_order : (least greatest : ℚ) (lo hi : Option Bound) → lo ≡ down least → hi ≡ up greatest → least ≤ℚ greatest
+    → ForSome (from_ends lo hi) IsOrdered
+outward_in_order least greatest lo hi e f h s g = outward_ordered least greatest s (sym (outward-ends least greatest lo hi e f) ∙ g) h
+
+pub sum_in_order : (a b : Interval) → IsOrdered a → IsOrdered b
+    → (value_of a.lo +ℚ value_of b.lo) ≤ℚ (value_of a.hi +ℚ value_of b.hi)
+sum_in_order a b h k = +ℚ-≤ℚ_both _ _ _ _ h.ordered k.ordered
+
+pub sum_answer_encloses : {E : Type 0} (a b : Interval) (r : Result Interval E) (error : E) → r ≡ ok_or (sum_span a b) error
+    → (q t : ℚ) → Encloses a q → Encloses b t → IfOk r (λ s. Encloses s (q +ℚ t))
+sum_answer_encloses a b r error e q t h k =
+    rw e (by (sum_span a b) refl) where
+      by : (o : Option Interval) → sum_span a b ≡ o → IfOk (ok_or o error) (λ s. Encloses s (q +ℚ t))
+      by None f = tt
+      by (Some s) f = sum_span_encloses a b s f q t h k

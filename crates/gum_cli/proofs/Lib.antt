@@ -1,0 +1,2 @@
+pub mod ReadingWords
+pub mod Sound

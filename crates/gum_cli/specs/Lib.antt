@@ -1,0 +1,7 @@
+pub mod Padded
+pub mod Words
+pub mod Formula
+pub mod Sums
+pub mod Sheet
+pub mod Script
+pub mod Run

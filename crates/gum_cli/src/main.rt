@@ -1,0 +1,11 @@
+//! The program `gumtree`: it reads a script of commands and writes one reply for each.
+#![tactic(auto)]
+
+mod command;
+mod name;
+mod reply;
+mod respond;
+mod run;
+mod words;
+
+fn main(_rt: HostRuntime) {}
