@@ -1,2 +1,3 @@
 pub mod ReadingWords
 pub mod Sound
+pub mod Standing

@@ -6,6 +6,7 @@ mod name;
 mod reply;
 mod respond;
 mod run;
+mod sheet;
 mod words;
 
 fn main(_rt: HostRuntime) {}

@@ -14,5 +14,5 @@ returns-in-Ok-write_all-clause-done g c =
       met_end = search rules;
       none_left = search rules;
       wrote = search rules;
-      sound = ?;
+      sound = all_sound [] (lines_of c.in-Ok.script.items);
     }
