@@ -3,15 +3,15 @@
 use Rattle.std.specs.Prelude.{◌≡◌, Bool, true, ℤ}
 use Rattle.std.proofs.Math.Bool.{Bool-set}
 use lib.IntN.{ℤ_set}
-use std.Quotient.{◌/◌, cls, eq/, /_set, /_rec, /_rec₂}
+use std.Quotient.{cls, eq/, /_set, /_rec, /_rec₂}
 use Rattle.exact_fraction.specs.Fraction.{Fraction, ◌≈◌, ◌⊕◌, ◌⊗◌, negated, whole, inverse, is_zero_ℤ, is_at_most, floor}
 use Rattle.exact_fraction.specs.FractionLaws.{⊕-same, ⊕-same_right, ⊗-same, ⊗-same_right, negated-same, is_at_most-same, is_at_most-same_right}
 use Rattle.exact_fraction.specs.Inverse.{inverse-same, is_zero-same}
 use Rattle.exact_fraction.specs.Floor.{floor-same}
 
--- the numbers: equal fractions are one number
+-- the numbers: the quotient of the fractions by their equality, so equal fractions are one number
 abbrev pub ℚ : Type 0
-ℚ = Fraction / ◌≈◌
+ℚ = std.Quotient.◌/◌ Fraction ◌≈◌
 
 -- the number of a fraction
 abbrev pub number_of : Fraction → ℚ
