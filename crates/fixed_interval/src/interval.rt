@@ -1,6 +1,7 @@
 ghost use Rattle.std.specs.Prelude.{◌≡◌, ◌+◌, Result, Ok, Err, IfOk};
 ghost use Rattle.std.specs.Option.{ForSome, ok_or};
 ghost use Rattle.exact_fraction.specs.Number.{ℚ, ◌+ℚ◌};
+ghost use Rattle.decimal18.specs.Bound.{value_of};
 ghost use Rattle.fixed_interval.specs.Interval.{Encloses, IsOrdered, from_ends, point_span, sum_span};
 
 use crate::counter::Steps;
@@ -60,16 +61,22 @@ impl Span {
     }
 }
 
-/// The span of one number.
+/// The span of one number. It ticks once.
 pub fn point<L: Ledger>(d: Dec, steps: &mut Steps<L>) -> Span
     ensures span { result ≡ point_span d }
+    ensures encloses { Encloses result (value_of d) }
     ensures ticks { steps.new ≡ steps.old + 1 }
 {
     steps.tick();
     Span { lo: d, hi: d }
 }
 
-/// The span of the sums of a number in `a` and a number in `b`, its ends rounded outwards.
+/// The span of the sums of a number in `a` and a number in `b`, its ends rounded outwards. It ticks
+/// once.
+///
+/// # Errors
+///
+/// [`Overflow`] exactly where an end is out of the range of bounds.
 pub fn add<L: Ledger>(a: &Span, b: &Span, steps: &mut Steps<L>) -> Result<Span, Overflow>
     ensures span { result ≡ ok_or (sum_span a.now b.now) (record {}) }
     ensures encloses { (q r : ℚ) → Encloses a.now q → Encloses b.now r → IfOk result (λ s. Encloses s (q +ℚ r)) }

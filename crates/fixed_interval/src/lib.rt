@@ -4,6 +4,8 @@
 
 mod counter;
 mod interval;
+#[cfg(test)]
+mod tests;
 
 pub use counter::Steps;
 pub use interval::{Overflow, Span, add, point};

@@ -3,3 +3,6 @@ use Rattle.fixed_interval.proofs.interval.point.Goals as goal
 
 pub invariant_of-result : goal.invariant_of-result
 invariant_of-result g c = record { ordered = ≤ℚ_refl _ }
+
+pub returns-clause-encloses : goal.returns-clause-encloses
+returns-clause-encloses g c = record { low = ≤ℚ_refl _; high = ≤ℚ_refl _ }
