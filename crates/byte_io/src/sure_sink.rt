@@ -57,8 +57,6 @@ impl Sink for SureSink {
         // What else the trait says.
         ensures written { WriteAppends (⟦<SureSink as Sink>⟧.written self.old)
             (⟦<SureSink as Sink>⟧.written self.new) result piece.now }
-        ensures told { SameTold (⟦<SureSink as Sink>⟧.written self.old)
-            (⟦<SureSink as Sink>⟧.written self.new) }
         ensures room { UsesRoom (⟦<SureSink as Sink>⟧.room self.old)
             (⟦<SureSink as Sink>⟧.room self.new) result }
     {

@@ -72,8 +72,6 @@ impl Source for SureSource {
         ensures count { Counts (⟦<SureSource as Source>⟧.count self.old) (⟦<SureSource as Source>⟧.count self.new) result }
         ensures taken { WriteAppends (⟦<SureSource as Source>⟧.taken self.old) (⟦<SureSource as Source>⟧.taken self.new) result piece.new }
         ensures left { ReadConsumes (⟦<SureSource as Source>⟧.left self.old) (⟦<SureSource as Source>⟧.left self.new) result piece.new }
-        ensures taken_told { SameTold (⟦<SureSource as Source>⟧.taken self.old) (⟦<SureSource as Source>⟧.taken self.new) }
-        ensures left_told { SameTold (⟦<SureSource as Source>⟧.left self.old) (⟦<SureSource as Source>⟧.left self.new) }
         ensures end { MeetsEnd (⟦<SureSource as Source>⟧.ended self.old) (⟦<SureSource as Source>⟧.ended self.new) result piece.new }
     {
         Ok(self.read_at_most(usize::MAX, piece))
