@@ -1,6 +1,5 @@
 ghost use Rattle.std.specs.Prelude.{◌≡◌, ◌↔◌, ◌≤◌, ◌<◌, ◌^◌, length, [], Some, IsErr, IfOk, Contains};
 ghost use Rattle.std.specs.Io.KnownBytes.{WriteAppends};
-ghost use Rattle.byte_io.specs.Told.{SameTold};
 ghost use Rattle.byte_io.specs.Faults.{next_count, CountsFault};
 ghost use Rattle.byte_io.specs.Sink.{HasRoom, UsesRoom};
 
@@ -62,7 +61,8 @@ impl Sink for MemorySink {
     fn write(&mut self, piece: &[u8]) -> Result<usize, Failed>
         requires { HasRoom (⟦<MemorySink as Sink>⟧.room self.old) (length piece.now) }
 
-        ensures listed { IsErr result ↔ Contains (failing_calls self.old) (next_count (calls_made self.old)) }
+        ensures listed { IsErr result
+            ↔ Contains (failing_calls self.old) (next_count (calls_made self.old)) }
         ensures whole { IfOk result (λ n. n ≡ length piece.now) }
 
         // How the schedule goes on.
@@ -76,7 +76,8 @@ impl Sink for MemorySink {
             (⟦<MemorySink as Sink>⟧.room self.new) result }
         ensures faults { CountsFault (⟦<MemorySink as Sink>⟧.faults self.old)
             (⟦<MemorySink as Sink>⟧.faults self.new) result }
-        ensures never_falls { ⟦<MemorySink as Sink>⟧.faults self.old ≤ ⟦<MemorySink as Sink>⟧.faults self.new }
+        ensures never_falls { ⟦<MemorySink as Sink>⟧.faults self.old
+            ≤ ⟦<MemorySink as Sink>⟧.faults self.new }
         ensures fits { ⟦<MemorySink as Sink>⟧.faults self.new < 2 ^ 64 }
     {
         let _faults = self.schedule.faults;

@@ -1,7 +1,6 @@
-ghost use Rattle.std.specs.Prelude.{◌≡◌, ◌↔◌, ℕ, ◌+◌, ◌≤◌, ◌<◌, ◌^◌, min, length, drop, [], ◌∷◌, Some, false, vec_len, IsErr, IfOk, IfSome, MatchResult, All, Contains};
+ghost use Rattle.std.specs.Prelude.{◌≡◌, ◌↔◌, ℕ, ◌≤◌, ◌<◌, ◌^◌, min, length, drop, [], Some, false, IsErr, IfOk, IfSome, MatchResult, All, Contains};
 ghost use Rattle.std.specs.Io.{ReadsAtMost};
 ghost use Rattle.std.specs.Io.KnownBytes.{WriteAppends, ReadConsumes};
-ghost use Rattle.byte_io.specs.Told.{SameTold};
 ghost use Rattle.byte_io.specs.Faults.{next_count, CountsFault};
 ghost use Rattle.byte_io.specs.Source.{Counts, MeetsEnd};
 ghost use Rattle.byte_io.specs.Memory.{piece_of};
@@ -84,14 +83,16 @@ impl Source for MemorySource {
 
     /// Fails exactly at the calls that are listed, and gives at most a piece of the next length.
     fn read(&mut self, piece: &mut [u8]) -> Result<usize, Failed>
-        ensures listed { IsErr result ↔ Contains (failing_calls self.old) (next_count (calls_made self.old)) }
+        ensures listed { IsErr result
+            ↔ Contains (failing_calls self.old) (next_count (calls_made self.old)) }
         ensures given { IfOk result (λ n. IfSome (⟦<MemorySource as Source>⟧.left self.old)
             (λ bytes. n ≡ piece_of (piece_lengths self.old) (min (length bytes) (length piece.new)))) }
 
         // How the schedule goes on.
         ensures calls { calls_made self.new ≡ next_count (calls_made self.old) }
         ensures fails { failing_calls self.new ≡ failing_calls self.old }
-        ensures lengths { MatchResult result (λ _. piece_lengths self.new ≡ drop 1 (piece_lengths self.old))
+        ensures lengths { MatchResult result
+            (λ _. piece_lengths self.new ≡ drop 1 (piece_lengths self.old))
             (λ _. piece_lengths self.new ≡ piece_lengths self.old) }
 
         // What the trait says, with the faults counted.
@@ -106,7 +107,8 @@ impl Source for MemorySource {
             (⟦<MemorySource as Source>⟧.ended self.new) result piece.new }
         ensures faults { CountsFault (⟦<MemorySource as Source>⟧.faults self.old)
             (⟦<MemorySource as Source>⟧.faults self.new) result }
-        ensures never_falls { ⟦<MemorySource as Source>⟧.faults self.old ≤ ⟦<MemorySource as Source>⟧.faults self.new }
+        ensures never_falls { ⟦<MemorySource as Source>⟧.faults self.old
+            ≤ ⟦<MemorySource as Source>⟧.faults self.new }
         ensures fits { ⟦<MemorySource as Source>⟧.faults self.new < 2 ^ 64 }
     {
         let _faults = self.schedule.faults;

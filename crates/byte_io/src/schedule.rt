@@ -24,7 +24,8 @@ impl Schedule {
     pub(crate) fn count_call(&mut self) -> bool
         ensures listed { IsTrue result ↔ Contains self.old.fails.items (next_count self.old.calls) }
         ensures calls { self.new.calls ≡ next_count self.old.calls }
-        ensures faults { self.new.faults ≡ (if result then next_count self.old.faults else self.old.faults) }
+        ensures faults { self.new.faults
+            ≡ (if result then next_count self.old.faults else self.old.faults) }
         ensures fails { self.new.fails ≡ self.old.fails }
     {
         self.calls = self.calls.saturating_add(1);

@@ -40,7 +40,8 @@ impl<W: Write> Sink for StdSink<W> {
         ensures some { IfOk result (λ n. 0 < length piece.now → 0 < n) }
         ensures faults { CountsFault (⟦<StdSink<W> as Sink>⟧.faults self.old)
             (⟦<StdSink<W> as Sink>⟧.faults self.new) result }
-        ensures never_falls { ⟦<StdSink<W> as Sink>⟧.faults self.old ≤ ⟦<StdSink<W> as Sink>⟧.faults self.new }
+        ensures never_falls { ⟦<StdSink<W> as Sink>⟧.faults self.old
+            ≤ ⟦<StdSink<W> as Sink>⟧.faults self.new }
         ensures fits { ⟦<StdSink<W> as Sink>⟧.faults self.new < 2 ^ 64 }
     {
         let _faults = self.faults;

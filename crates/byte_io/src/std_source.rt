@@ -59,7 +59,8 @@ impl<R: Read> Source for StdSource<R> {
             (⟦<StdSource<R> as Source>⟧.ended self.new) result piece.new }
         ensures faults { CountsFault (⟦<StdSource<R> as Source>⟧.faults self.old)
             (⟦<StdSource<R> as Source>⟧.faults self.new) result }
-        ensures never_falls { ⟦<StdSource<R> as Source>⟧.faults self.old ≤ ⟦<StdSource<R> as Source>⟧.faults self.new }
+        ensures never_falls { ⟦<StdSource<R> as Source>⟧.faults self.old
+            ≤ ⟦<StdSource<R> as Source>⟧.faults self.new }
         ensures fits { ⟦<StdSource<R> as Source>⟧.faults self.new < 2 ^ 64 }
     {
         let _faults = self.faults;

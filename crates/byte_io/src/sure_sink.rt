@@ -1,8 +1,5 @@
-ghost use Rattle.std.specs.Prelude.{◌≡◌, ◌+◌, ◌≤◌, ◌<◌, ◌^◌, length, [], Some, vec_len, vec_capacity, IsOk, IfOk};
-ghost use Rattle.std.specs.Io.{WritesAtMost};
+ghost use Rattle.std.specs.Prelude.{◌≡◌, ◌+◌, ◌≤◌, length, [], Some, vec_len, vec_capacity, IsOk, IfOk};
 ghost use Rattle.std.specs.Io.KnownBytes.{WriteAppends};
-ghost use Rattle.byte_io.specs.Told.{SameTold};
-ghost use Rattle.byte_io.specs.Faults.{HasCause};
 ghost use Rattle.byte_io.specs.Sink.{HasRoom, UsesRoom};
 
 use crate::{Failed, OutOfMemory, Sink};

@@ -1,6 +1,6 @@
 //! A caller that knows its source and its sink by the traits alone, run at each kind of them.
 
-ghost use Rattle.std.specs.Prelude.{◌≡◌, ◌+◌, ◌*◌, ◌≤◌, ◌<◌, ◌^◌, ◌⊎◌, List, ℕ, length, IsTrue, OnOk, OnErr, IfOk};
+ghost use Rattle.std.specs.Prelude.{◌*◌, ◌≤◌, ◌^◌, ◌⊎◌, List, ℕ, length, IsTrue, OnOk, OnErr, IfOk};
 ghost use Rattle.byte_io.specs.Faults.{Rose, HasCause};
 ghost use Rattle.byte_io.specs.Source.{Took};
 ghost use Rattle.byte_io.specs.Sink.{HasRoom, Wrote, WrotePart};
