@@ -1,5 +1,5 @@
 -- A count of faults that never falls, over several calls.
-use Rattle.std.proofs.Common.{◌≡◌, ℕ, ◌^◌, ◌<◌, ◌≤◌, ◌⊎◌, inl, inr, arith}
+use Rattle.std.proofs.Common.{ℕ, ◌^◌, ◌<◌, ◌≤◌, inl, inr, arith}
 use Rattle.byte_io.specs.Faults.{Rose, last_count}
 
 -- a count that rose in a first call rose in both

@@ -1,5 +1,5 @@
 -- What several writes took, and the room that they left.
-use Rattle.std.proofs.Common.{◌≡◌, ℕ, ◌+◌, ◌-◌, ◌≤◌, List, [], ◌++◌, length, take, drop, Option, Some, None, refl, sym, ap, ◌∙◌, subst, arith, length-append}
+use Rattle.std.proofs.Common.{◌≡◌, ℕ, ◌+◌, ◌≤◌, List, [], ◌++◌, length, take, drop, Option, Some, None, sym, ap, ◌∙◌, subst, arith, length-append}
 use Rattle.std.proofs.lemmas.List.{length-take-le, take_all, take-append-le}
 use Rattle.std.proofs.Math.Seq.{take-add, take-append-add}
 use Rattle.std.proofs.KnownBytes.{Appends-nil, Appends-trans, Appends-kept}
@@ -81,20 +81,20 @@ pub WrotePart-whole : (written written' : Option (List ℕ)) (room room' : Optio
     → Wrote written written' room room' bytes → WrotePart written written' room room' bytes
 WrotePart-whole written written' room room' bytes wrote =
     WrotePart-front (length bytes) written written' room room' bytes (omega arith)
-        (subst (Wrote written written' room room') (sym (take_all (length bytes) bytes (omega arith))) wrote)
+    (subst (Wrote written written' room room') (sym (take_all (length bytes) bytes (omega arith))) wrote)
 
 -- a front of some bytes is a front of the same bytes and more
 pub WrotePart-longer : (written written' : Option (List ℕ)) (room room' : Option ℕ) (bytes more : List ℕ)
     → WrotePart written written' room room' bytes → WrotePart written written' room room' (bytes ++ more)
 WrotePart-longer written written' room room' bytes more part =
     WrotePart-front part.many written written' room room' (bytes ++ more) (omega (arith, part.within, length-append bytes more))
-        (subst (Wrote written written' room room') (sym (take-append-le part.many bytes more part.within)) part.wrote)
+    (subst (Wrote written written' room room') (sym (take-append-le part.many bytes more part.within)) part.wrote)
 
 -- some bytes were written, and then a front of others
 pub WrotePart-after : (written written' written'' : Option (List ℕ)) (room room' room'' : Option ℕ) (first second : List ℕ)
     → Wrote written written' room room' first → WrotePart written' written'' room' room'' second → WrotePart written written'' room room'' (first ++ second)
 WrotePart-after written written' written'' room room' room'' first second wrote part =
     WrotePart-front (length first + part.many) written written'' room room'' (first ++ second) (omega (arith, part.within, length-append first second))
-        (subst (Wrote written written'' room room'') (sym (take-append-add first second part.many)) (Wrote-trans wrote part.wrote))
+    (subst (Wrote written written'' room room'') (sym (take-append-add first second part.many)) (Wrote-trans wrote part.wrote))
 
 pub ruleset sink_steps = (HasRoom-fewer, HasRoom-falls, Falls-nothing, Falls-trans, Wrote-nothing, Wrote-trans, Wrote-write, Wrote-more, Wrote-failed, Wrote-room, WrotePart-front, WrotePart-whole, WrotePart-longer, WrotePart-after)

@@ -1,6 +1,6 @@
 //! A caller that knows its source and its sink by the traits alone, run at each kind of them.
 
-ghost use Rattle.std.specs.Prelude.{◌≡◌, ◌+◌, ◌*◌, ◌≤◌, ◌<◌, ◌^◌, ◌⊎◌, List, ℕ, length, IsTrue, OnOk, OnErr, IfOk};
+ghost use Rattle.std.specs.Prelude.{◌*◌, ◌≤◌, ◌^◌, ◌⊎◌, List, ℕ, length, IsTrue, OnOk, OnErr, IfOk};
 ghost use Rattle.byte_io.specs.Faults.{Rose, HasCause};
 ghost use Rattle.byte_io.specs.Source.{Took};
 ghost use Rattle.byte_io.specs.Sink.{HasRoom, Wrote, WrotePart};
@@ -33,7 +33,7 @@ fn copy<S: Source, K: Sink>(source: &mut S, sink: &mut K, turns: u32) -> Result<
     requires room { HasRoom (K.room sink.old) (4 * turns) }
     ensures whole { OnOk result ((bytes : List ℕ)
         × (Took (S.count source.old) (S.count source.new) (S.taken source.old) (S.taken source.new)
-            (S.left source.old) (S.left source.new) bytes)
+        (S.left source.old) (S.left source.new) bytes)
         × (Wrote (K.written sink.old) (K.written sink.new) (K.room sink.old) (K.room sink.new) bytes)) }
     ensures end { IfOk result (λ is_end. IsTrue is_end → IsTrue (S.ended source.new)) }
     ensures cause { OnErr result (Rose (S.faults source.old) (S.faults source.new)

@@ -1,4 +1,4 @@
-use Rattle.std.proofs.Common.{ℕ, ◌+◌, ◌*◌, ◌-◌, ◌++◌, take, arith}
+use Rattle.std.proofs.Common.{◌+◌, ◌*◌, ◌-◌, ◌++◌, take, arith}
 use Rattle.std.proofs.lemmas.List.{length-take-le}
 use Rattle.byte_io.proofs.SourceLemmas.{Took-more}
 use Rattle.byte_io.proofs.SinkLemmas.{Wrote-trans, Wrote-room}
