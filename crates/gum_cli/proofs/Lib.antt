@@ -1,3 +1,4 @@
 pub mod ReadingWords
+pub mod Kept
 pub mod Sound
 pub mod Standing

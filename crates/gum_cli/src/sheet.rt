@@ -72,7 +72,7 @@ impl Sheet {
     {
         match self.operand(sum.first, steps)? {
             Evaluation::Enclosed(first) => self.evaluate_on(row, first, sum.rest.as_slice(), steps),
-            fault => Some(fault),
+            Evaluation::Overflow(at) => Some(Evaluation::Overflow(at)),
         }
     }
 
@@ -124,7 +124,7 @@ impl Sheet {
         for atom in atoms {
             let span = match self.operand(*atom, steps)? {
                 Evaluation::Enclosed(span) => span,
-                fault => return Some(fault),
+                Evaluation::Overflow(at) => return Some(Evaluation::Overflow(at)),
             };
             total = match add(&total, &span, steps) {
                 Ok(sum) => sum,

@@ -1,4 +1,4 @@
-use Rattle.std.proofs.Common.{◌≡◌, subst, rules}
+use Rattle.std.proofs.Common.{◌≡◌, [], subst, rules}
 use Rattle.byte_io.specs.Sink.{Wrote}
 use Rattle.gum_cli.specs.Words.{lines_of}
 use Rattle.gum_cli.specs.Script.{out}
