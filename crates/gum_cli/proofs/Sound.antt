@@ -8,7 +8,7 @@ use Rattle.fixed_interval.proofs.Enclosures.{sum_span_encloses}
 use Rattle.gum_cli.specs.Formula.{Formula, Num, Var, Add, replaced, exact_sum, exact_value}
 use Rattle.gum_cli.specs.Sums.{formula_of}
 use Rattle.gum_cli.specs.Sheet.{Body, Input, Function, Row, body_of, has_row, ended, sum_in, span_of_formula, span_of_body, span_through, span_of, expanded_body, expanded_through, estimate_of, exact_value_of}
-use Rattle.gum_cli.specs.Script.{first_unknown, unless_unknown, evaluated, reply_to, answer_to, command_of, sheet_after, HasValueIn, IsSound, AreSound}
+use Rattle.gum_cli.specs.Script.{first_unknown, unless_unknown, evaluated, reply_to, answer_to, command_of, sheet_after, IsSound, AreSound}
 use Rattle.gum_cli.specs.declared.command.Command.{Command}
 use Rattle.gum_cli.specs.declared.command.Command.TheVariants.{Given, Let, Value}
 use Rattle.gum_cli.specs.declared.reply.Evaluation.{Evaluation}
