@@ -1,1 +1,3 @@
 pub mod ReadingWords
+pub mod ReadingNumbers
+pub mod ReadingForms
