@@ -1,12 +1,11 @@
 -- Operands behind others, and lines with a word too many.
-use Rattle.std.proofs.Common.{◌≡◌, ℕ, ◌+◌, ◌<◌, ◌==◌, Bool, true, false, ◌&&◌, if◌then◌else◌, codes, Option, Some, None, option_map, List, [], ◌∷◌, ◌++◌, length, refl, sym, ap, append_assoc, arith}
+use Rattle.std.proofs.Common.{◌≡◌, ℕ, ◌<◌, ◌==◌, Bool, true, false, ◌&&◌, if◌then◌else◌, codes, Option, Some, None, List, [], ◌∷◌, ◌++◌, length, refl, ap, append_assoc, arith}
 use Rattle.std.proofs.lemmas.List.Splits.{length-slice_split}
 use Rattle.std.specs.Prelude.{bytes_eq}
 use Rattle.gum_cli.specs.Words.{words_of, is_plain_name}
 use Rattle.gum_cli.specs.Sums.{Operands}
 use Rattle.gum_cli.specs.Script.{onto, sum_of, given_of, let_of, query_of}
 use Rattle.gum_cli.specs.declared.command.Atom.{Atom}
-use Rattle.gum_cli.specs.declared.command.Command.{Command}
 use Rattle.gum_cli.specs.declared.command.Command.TheVariants.{Let}
 
 -- these operands, with the others behind them

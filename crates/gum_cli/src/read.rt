@@ -15,15 +15,21 @@ use decimal18::{Dec, OutOfMemory};
 use std::alloc::Global;
 
 const GIVEN: &[u8] = b"given";
+
 const LET: &[u8] = b"let";
+
 const VALUE: &[u8] = b"value";
+
 const STD: &[u8] = b"std";
+
 const EQUALS: &[u8] = b"=";
+
 const PLUS: &[u8] = b"+";
 
 /// The most digits of a number.
 const DIGIT_LIMIT: usize = 18;
 
+/// Whether each byte is a digit.
 fn all_digits(word: &[u8]) -> bool
     ensures { result ≡ list_all is_ascii_digit word.now }
 {
@@ -92,7 +98,7 @@ fn read_operand(text: &[u8]) -> Option<(Atom, Option<&[u8]>)>
     Some((atom, rest))
 }
 
-/// The operands in `text`, each behind a `+`.
+/// The operands in `text`, each behind a `+`; none where there is no text.
 #[tactic(auto, using(crate::proofs::ReadingForms::operand_steps))]
 fn read_operands(alloc: Global, text: Option<&[u8]>) -> Result<Option<Vec<Atom>>, OutOfMemory>
     ensures { IfOk result (λ atoms. option_map (λ list. list.items) atoms ≡ atoms_of (option_map_or (λ rest. words_of rest.now) text.entry [])) }
@@ -201,4 +207,68 @@ pub(crate) fn read_command(alloc: Global, line: &[u8]) -> Result<Option<Command>
         return Ok(read_value(text));
     }
     Ok(None)
+}
+
+#[cfg(test)]
+mod tests {
+    use super::*;
+    use std::test::Fail;
+
+    #[test]
+    fn reads_an_input(rt: HostRuntime) -> Result<(), Fail> {
+        let command = read_command(rt.alloc(), b"given X 5 std 012")?;
+        let Some(
+            Command::Given {
+                name,
+                estimate,
+                uncertainty,
+            },
+        ) = command
+        else {
+            panic!(rt; "no input");
+        };
+        assert!(rt; name.as_bytes() == b"X".as_slice());
+        assert_eq!(rt; estimate.coefficient(), 5);
+        assert_eq!(rt; uncertainty.coefficient(), 12);
+        Ok(())
+    }
+
+    #[test]
+    fn reads_a_formula(rt: HostRuntime) -> Result<(), Fail> {
+        let command = read_command(rt.alloc(), b"let _a1 = X + 999999999999999999")?;
+        let Some(Command::Let { name, sum }) = command else {
+            panic!(rt; "no formula");
+        };
+        assert!(rt; name.as_bytes() == b"_a1".as_slice());
+        assert!(rt; matches!(sum.first, Atom::Name(_)));
+        assert_eq!(rt; sum.rest.len(), 1);
+        Ok(())
+    }
+
+    #[test]
+    fn reads_a_query(rt: HostRuntime) -> Result<(), Fail> {
+        let command = read_command(rt.alloc(), b"value abcdefghijklmnopqrstuvwx")?;
+        let Some(Command::Value(name)) = command else {
+            panic!(rt; "no query");
+        };
+        assert_eq!(rt; name.as_bytes().len(), 24);
+        Ok(())
+    }
+
+    fn is_refused(rt: &HostRuntime, line: &[u8]) -> Result<bool, OutOfMemory> {
+        Ok(read_command(rt.alloc(), line)?.is_none())
+    }
+
+    #[test]
+    fn refuses_other_lines(rt: HostRuntime) -> Result<(), Fail> {
+        assert!(rt; is_refused(&rt, b"")?);
+        assert!(rt; is_refused(&rt, b"given X 1234567890123456789 std 1")?);
+        assert!(rt; is_refused(&rt, b"given X  5 std 1")?);
+        assert!(rt; is_refused(&rt, b"given X 5 std 1 ")?);
+        assert!(rt; is_refused(&rt, b"value abcdefghijklmnopqrstuvwxy")?);
+        assert!(rt; is_refused(&rt, b"value X\r")?);
+        assert!(rt; is_refused(&rt, b"let A = X +")?);
+        assert!(rt; is_refused(&rt, b"let A = ")?);
+        Ok(())
+    }
 }

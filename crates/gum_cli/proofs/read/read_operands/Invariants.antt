@@ -8,7 +8,7 @@ use Rattle.gum_cli.proofs.read.read_operands.Given as goal
 abbrev pub invariant-loop-rest : goal.invariant-loop-rest
 invariant-loop-rest l =
     ahead l.atoms.items (atoms_of (option_map_or (λ rest. words_of rest.now) l.rest []))
-      ≡ atoms_of (option_map_or (λ rest. words_of rest.now) l.fn.text [])
+    ≡ atoms_of (option_map_or (λ rest. words_of rest.now) l.fn.text [])
 
 abbrev pub decreases-loop-rest : goal.decreases-loop-rest
 decreases-loop-rest l = option_map_or (λ rest. suc (length rest.now)) l.rest 0
