@@ -3,6 +3,7 @@
 
 mod command;
 mod name;
+mod read;
 mod reply;
 mod respond;
 mod run;

@@ -1,4 +1,6 @@
-ghost use Rattle.std.specs.Prelude.{◌≡◌, ◌<◌, ◌≤◌, ◌↔◌, length, IsNone, IfSome};
+ghost use Rattle.std.specs.Prelude.{◌≡◌, ◌<◌, ◌≤◌, ◌↔◌, length, IsNone, IfSome, if◌then◌else◌};
+ghost use Rattle.std.specs.List.{list_all};
+ghost use Rattle.gum_cli.specs.Words.{is_plain_name, begins_name, goes_on_name};
 ghost use Rattle.std.specs.Hash as fed;
 ghost use Rattle.std.specs.Cmp.Rules.{hashing};
 ghost use Rattle.std.proofs.Common.{rules};
@@ -85,4 +87,46 @@ impl Hash for Name {
     fn hash<H: Hasher>(&self, state: &mut H) {
         self.as_bytes().hash(state);
     }
+}
+
+/// Whether a name may begin with this byte: a letter or `_`.
+fn begins_name(byte: u8) -> bool
+    ensures { result ≡ begins_name byte }
+{
+    byte.is_ascii_alphabetic() || byte == b'_'
+}
+
+/// Whether a name may go on with this byte: a letter, a digit or `_`.
+fn goes_on_name(byte: u8) -> bool
+    ensures { result ≡ goes_on_name byte }
+{
+    byte.is_ascii_alphanumeric() || byte == b'_'
+}
+
+/// Whether a name may go on with these bytes.
+fn all_go_on_name(bytes: &[u8]) -> bool
+    ensures { result ≡ list_all goes_on_name bytes.now }
+{
+    bytes.iter().all(|byte| goes_on_name(*byte))
+}
+
+/// Whether the word is a plain name: a letter or `_`, then letters, digits and `_`, and at most
+/// `NAME_LIMIT` bytes.
+pub fn is_plain_name(word: &[u8]) -> bool
+    ensures { result ≡ is_plain_name word.now }
+{
+    let Some((first, others)) = word.split_first() else {
+        return false;
+    };
+    begins_name(*first) && all_go_on_name(others) && others.len() < NAME_LIMIT
+}
+
+/// The name that the word is, where it is a plain name.
+pub fn read_name(word: &[u8]) -> Option<Name>
+    ensures { result ≡ (if is_plain_name word.now then Some word.now else None) }
+{
+    if !is_plain_name(word) {
+        return None;
+    }
+    Name::new(word)
 }
