@@ -67,7 +67,12 @@ impl Sheet {
 
     /// The evaluation of a sum in the formula of `row`: of its operands from the left, the first
     /// fault decides. `None` where it has a name that no row has before any fault.
-    pub fn evaluate<L: Ledger>(&self, row: Name, sum: &Sum, steps: &mut Steps<L>) -> Option<Evaluation>
+    pub fn evaluate<L: Ledger>(
+        &self,
+        row: Name,
+        sum: &Sum,
+        steps: &mut Steps<L>,
+    ) -> Option<Evaluation>
         ensures { result ≡ span_of_formula (kept self.now) row (formula_of sum.now) }
     {
         match self.operand(sum.first, steps)? {

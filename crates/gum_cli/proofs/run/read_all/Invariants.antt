@@ -9,7 +9,7 @@ invariant-pieces g l =
     record {
       took : Took (S.count l.fn.source) (S.count l.source) (S.taken l.fn.source) (S.taken l.source) (S.left l.fn.source) (S.left l.source) l.script.items;
       short : vec_len l.script ≤ script_limit;
-      never_falls : S.faults l.fn.source ≤ S.faults l.source
+      never_falls : S.faults l.fn.source ≤ S.faults l.source;
     }
 
 abbrev pub decreases-pieces : goal.decreases-pieces

@@ -9,7 +9,7 @@ invariant-writes g l =
       within : l.at ≤ length l.bytes;
       enough : HasRoom (K.room l.sink) (length l.bytes - l.at);
       wrote : Wrote (K.written l.fn.sink) (K.written l.sink) (K.room l.fn.sink) (K.room l.sink) (take l.at l.bytes);
-      never_falls : K.faults l.fn.sink ≤ K.faults l.sink
+      never_falls : K.faults l.fn.sink ≤ K.faults l.sink;
     }
 
 abbrev pub decreases-writes : goal.decreases-writes
