@@ -4,3 +4,4 @@ pub mod ReadingForms
 pub mod Kept
 pub mod Sound
 pub mod Standing
+pub mod Serving
