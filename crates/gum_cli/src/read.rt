@@ -192,7 +192,8 @@ fn read_value(text: Option<&[u8]>) -> Option<Command>
     Some(Command::Value(name))
 }
 
-/// The command that the line is, and `None` where it has none of the three forms.
+/// The command that the line, without its line feed, is, and `None` where it has none of the three
+/// forms. It fails only where there is no memory for the operands of a sum.
 pub(crate) fn read_command(alloc: Global, line: &[u8]) -> Result<Option<Command>, OutOfMemory>
     ensures { IfOk result (λ command. command ≡ command_of line.now) }
 {
@@ -216,14 +217,14 @@ mod tests {
 
     #[test]
     fn reads_an_input(rt: HostRuntime) -> Result<(), Fail> {
-        let command = read_command(rt.alloc(), b"given X 5 std 012")?;
-        let Some(
-            Command::Given {
-                name,
-                estimate,
-                uncertainty,
-            },
-        ) = command
+        let Some(command) = read_command(rt.alloc(), b"given X 5 std 012")? else {
+            panic!(rt; "no command");
+        };
+        let Command::Given {
+            name,
+            estimate,
+            uncertainty,
+        } = command
         else {
             panic!(rt; "no input");
         };
@@ -235,8 +236,10 @@ mod tests {
 
     #[test]
     fn reads_a_formula(rt: HostRuntime) -> Result<(), Fail> {
-        let command = read_command(rt.alloc(), b"let _a1 = X + 999999999999999999")?;
-        let Some(Command::Let { name, sum }) = command else {
+        let Some(command) = read_command(rt.alloc(), b"let _a1 = X + 999999999999999999")? else {
+            panic!(rt; "no command");
+        };
+        let Command::Let { name, sum } = command else {
             panic!(rt; "no formula");
         };
         assert!(rt; name.as_bytes() == b"_a1".as_slice());
@@ -247,8 +250,10 @@ mod tests {
 
     #[test]
     fn reads_a_query(rt: HostRuntime) -> Result<(), Fail> {
-        let command = read_command(rt.alloc(), b"value abcdefghijklmnopqrstuvwx")?;
-        let Some(Command::Value(name)) = command else {
+        let Some(command) = read_command(rt.alloc(), b"value abcdefghijklmnopqrstuvwx")? else {
+            panic!(rt; "no command");
+        };
+        let Command::Value(name) = command else {
             panic!(rt; "no query");
         };
         assert_eq!(rt; name.as_bytes().len(), 24);
