@@ -1,7 +1,8 @@
--- Operands behind others, and lines with a word too many.
-use Rattle.std.proofs.Common.{◌≡◌, ℕ, ◌<◌, ◌==◌, Bool, true, false, ◌&&◌, if◌then◌else◌, codes, Option, Some, None, List, [], ◌∷◌, ◌++◌, length, refl, ap, append_assoc, arith}
+-- Operands behind others, the parts of a formula, and lines with a word too many.
+use Rattle.std.proofs.Common.{◌≡◌, ℕ, ◌<◌, ◌==◌, Bool, true, false, ◌&&◌, if◌then◌else◌, codes, Option, Some, None, Bor, is_some, List, [], ◌∷◌, ◌++◌, length, refl, ap, append_assoc, arith}
 use Rattle.std.proofs.lemmas.List.Splits.{length-slice_split}
 use Rattle.std.specs.Prelude.{bytes_eq}
+use Rattle.std.specs.Option.{option_map_or}
 use Rattle.gum_cli.specs.Words.{words_of, is_plain_name}
 use Rattle.gum_cli.specs.Sums.{Operands}
 use Rattle.gum_cli.specs.Script.{onto, sum_of, given_of, let_of, query_of}
@@ -31,13 +32,17 @@ query_more_words name [] h = absurd (omega arith)
 query_more_words name (word ∷ words) h = refl
 
 -- with a fifth word no input is given
-pub given_more : (name estimate shape uncertainty more : List ℕ) →
-    given_of (name ∷ estimate ∷ shape ∷ uncertainty ∷ words_of more) ≡ None
-given_more name estimate shape uncertainty more = given_more_words name estimate shape uncertainty (words_of more) (some_word more)
+pub given_more : (name estimate shape uncertainty : List ℕ) (more : Option (Bor (List ℕ))) → is_some more ≡ true →
+    given_of (name ∷ estimate ∷ shape ∷ uncertainty ∷ option_map_or (λ rest. words_of rest.now) more []) ≡ None
+given_more name estimate shape uncertainty None h = cc
+given_more name estimate shape uncertainty (Some more) h =
+    given_more_words name estimate shape uncertainty (words_of more.now) (some_word more.now)
 
 -- with a second word nothing is asked for
-pub query_more : (name more : List ℕ) → query_of (name ∷ words_of more) ≡ None
-query_more name more = query_more_words name (words_of more) (some_word more)
+pub query_more : (name : List ℕ) (more : Option (Bor (List ℕ))) → is_some more ≡ true →
+    query_of (name ∷ option_map_or (λ rest. words_of rest.now) more []) ≡ None
+query_more name None h = cc
+query_more name (Some more) h = query_more_words name (words_of more.now) (some_word more.now)
 
 named : (plain : Bool) (word name : List ℕ) (sum : Operands) → Some name ≡ (if plain then Some word else None) →
     Some (Let name sum) ≡ (if plain && true then Some (Let word sum) else None)

@@ -80,9 +80,10 @@ fn read_atom(word: &[u8]) -> Option<Atom>
 /// The operand behind the `+` with which the text begins, and the text behind that operand, where
 /// there is more.
 fn read_operand(text: &[u8]) -> Option<(Atom, Option<&[u8]>)>
-    ensures operands { atoms_of (words_of text.now)
-        ≡ option_and_then (λ read. onto (Some read.0) (atoms_of (option_map_or (λ rest. words_of rest.now) read.1 []))) result }
-    ensures shorter { IfSome result (λ read. option_map_or (λ rest. length rest.now) read.1 0 < length text.now) }
+    ensures operands { atoms_of (words_of text.now) ≡ option_and_then (λ read.
+        onto (Some read.0) (atoms_of (option_map_or (λ rest. words_of rest.now) read.1 []))) result }
+    ensures shorter { IfSome result (λ read.
+        option_map_or (λ rest. length rest.now) read.1 0 < length text.now) }
 {
     let (plus, behind) = cut(text, b' ');
     let Some(behind) = behind else {
@@ -101,7 +102,8 @@ fn read_operand(text: &[u8]) -> Option<(Atom, Option<&[u8]>)>
 /// The operands in `text`, each behind a `+`; none where there is no text.
 #[tactic(auto, using(crate::proofs::ReadingForms::operand_steps))]
 fn read_operands(alloc: Global, text: Option<&[u8]>) -> Result<Option<Vec<Atom>>, OutOfMemory>
-    ensures { IfOk result (λ atoms. option_map (λ list. list.items) atoms ≡ atoms_of (option_map_or (λ rest. words_of rest.now) text.entry [])) }
+    ensures { IfOk result (λ atoms. option_map (λ list. list.items) atoms
+        ≡ atoms_of (option_map_or (λ rest. words_of rest.now) text.entry [])) }
 {
     let mut atoms = Vec::new(alloc);
     let mut rest = text;
@@ -137,7 +139,7 @@ fn read_given(text: Option<&[u8]>) -> Option<Command>
     let (estimate, text) = cut(text?, b' ');
     let (shape, text) = cut(text?, b' ');
     let (uncertainty, text) = cut(text?, b' ');
-    if let Some(_) = text {
+    if text.is_some() {
         return None;
     }
     let name = read_name(name)?;
@@ -155,7 +157,8 @@ fn read_given(text: Option<&[u8]>) -> Option<Command>
 
 /// `NAME = OPERAND + OPERAND ..`.
 fn read_let(alloc: Global, text: Option<&[u8]>) -> Result<Option<Command>, OutOfMemory>
-    ensures { IfOk result (λ command. command ≡ let_of (option_map_or (λ rest. words_of rest.now) text.entry [])) }
+    ensures { IfOk result (λ command.
+        command ≡ let_of (option_map_or (λ rest. words_of rest.now) text.entry [])) }
 {
     let Some(text) = text else {
         return Ok(None);
@@ -185,14 +188,15 @@ fn read_value(text: Option<&[u8]>) -> Option<Command>
     ensures { result ≡ query_of (option_map_or (λ rest. words_of rest.now) text.entry []) }
 {
     let (name, text) = cut(text?, b' ');
-    if let Some(_) = text {
+    if text.is_some() {
         return None;
     }
     let name = read_name(name)?;
     Some(Command::Value(name))
 }
 
-/// The command that the line is, and `None` where it has none of the three forms.
+/// The command that the line, without its line feed, is, and `None` where it has none of the three
+/// forms. It fails only where there is no memory for the operands of a sum.
 pub(crate) fn read_command(alloc: Global, line: &[u8]) -> Result<Option<Command>, OutOfMemory>
     ensures { IfOk result (λ command. command ≡ command_of line.now) }
 {
@@ -216,14 +220,14 @@ mod tests {
 
     #[test]
     fn reads_an_input(rt: HostRuntime) -> Result<(), Fail> {
-        let command = read_command(rt.alloc(), b"given X 5 std 012")?;
-        let Some(
-            Command::Given {
-                name,
-                estimate,
-                uncertainty,
-            },
-        ) = command
+        let Some(command) = read_command(rt.alloc(), b"given X 5 std 012")? else {
+            panic!(rt; "no command");
+        };
+        let Command::Given {
+            name,
+            estimate,
+            uncertainty,
+        } = command
         else {
             panic!(rt; "no input");
         };
@@ -235,8 +239,10 @@ mod tests {
 
     #[test]
     fn reads_a_formula(rt: HostRuntime) -> Result<(), Fail> {
-        let command = read_command(rt.alloc(), b"let _a1 = X + 999999999999999999")?;
-        let Some(Command::Let { name, sum }) = command else {
+        let Some(command) = read_command(rt.alloc(), b"let _a1 = X + 999999999999999999")? else {
+            panic!(rt; "no command");
+        };
+        let Command::Let { name, sum } = command else {
             panic!(rt; "no formula");
         };
         assert!(rt; name.as_bytes() == b"_a1".as_slice());
@@ -247,8 +253,10 @@ mod tests {
 
     #[test]
     fn reads_a_query(rt: HostRuntime) -> Result<(), Fail> {
-        let command = read_command(rt.alloc(), b"value abcdefghijklmnopqrstuvwx")?;
-        let Some(Command::Value(name)) = command else {
+        let Some(command) = read_command(rt.alloc(), b"value abcdefghijklmnopqrstuvwx")? else {
+            panic!(rt; "no command");
+        };
+        let Command::Value(name) = command else {
             panic!(rt; "no query");
         };
         assert_eq!(rt; name.as_bytes().len(), 24);
