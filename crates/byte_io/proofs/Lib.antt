@@ -1,0 +1,4 @@
+pub mod ToldLemmas
+pub mod FaultLemmas
+pub mod SourceLemmas
+pub mod SinkLemmas

@@ -1,5 +1,5 @@
 -- What a write does to the room of a sink: a number of bytes where the sink is bounded, and None where it is not.
-use Rattle.std.specs.Prelude.{◌≡◌, ℕ, ◌+◌, ◌≤◌, List, length, Option, Some, None, Result, MatchResult}
+use Rattle.std.specs.Prelude.{◌≡◌, ℕ, ◌+◌, ◌≤◌, List, length, take, Option, Some, None, Result, MatchResult}
 use Rattle.std.specs.Io.KnownBytes.{Appends}
 
 -- a bounded sink has room for n bytes
@@ -22,3 +22,9 @@ UsesRoom old new r = MatchResult r (λ n. Falls old new n) (λ _. new ≡ old)
 pub record Wrote (old_written new_written : Option (List ℕ)) (old_room new_room : Option ℕ) (bytes : List ℕ) : Type 0 where
   pub appended : Appends old_written new_written bytes
   pub used : Falls old_room new_room (length bytes)
+
+-- some writes took a front of these bytes, and no more
+pub record WrotePart (old_written new_written : Option (List ℕ)) (old_room new_room : Option ℕ) (bytes : List ℕ) : Type 0 where
+  pub many : ℕ
+  pub within : many ≤ length bytes
+  pub wrote : Wrote old_written new_written old_room new_room (take many bytes)

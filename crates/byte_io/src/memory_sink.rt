@@ -1,9 +1,7 @@
 ghost use Rattle.std.specs.Prelude.{◌≡◌, ◌↔◌, ◌≤◌, ◌<◌, ◌^◌, length, [], Some, IsErr, IfOk, Contains};
 ghost use Rattle.std.specs.Io.KnownBytes.{WriteAppends};
-ghost use Rattle.byte_io.specs.Told.{SameTold};
-ghost use Rattle.byte_io.specs.Faults.{HasCause};
+ghost use Rattle.byte_io.specs.Faults.{next_count, CountsFault};
 ghost use Rattle.byte_io.specs.Sink.{HasRoom, UsesRoom};
-ghost use Rattle.byte_io.specs.Memory.{next_call};
 
 use crate::schedule::Schedule;
 use crate::{Failed, OutOfMemory, Sink, SureSink};
@@ -63,21 +61,20 @@ impl Sink for MemorySink {
     fn write(&mut self, piece: &[u8]) -> Result<usize, Failed>
         requires { HasRoom (⟦<MemorySink as Sink>⟧.room self.old) (length piece.now) }
 
-        ensures listed { IsErr result ↔ Contains (failing_calls self.old) (next_call (calls_made self.old)) }
+        ensures listed { IsErr result
+            ↔ Contains (failing_calls self.old) (next_count (calls_made self.old)) }
         ensures whole { IfOk result (λ n. n ≡ length piece.now) }
 
         // How the schedule goes on.
-        ensures calls { calls_made self.new ≡ next_call (calls_made self.old) }
+        ensures calls { calls_made self.new ≡ next_count (calls_made self.old) }
         ensures fails { failing_calls self.new ≡ failing_calls self.old }
 
-        // What else the trait says.
+        // What else the trait says, with the faults counted.
         ensures written { WriteAppends (⟦<MemorySink as Sink>⟧.written self.old)
             (⟦<MemorySink as Sink>⟧.written self.new) result piece.now }
-        ensures told { SameTold (⟦<MemorySink as Sink>⟧.written self.old)
-            (⟦<MemorySink as Sink>⟧.written self.new) }
         ensures room { UsesRoom (⟦<MemorySink as Sink>⟧.room self.old)
             (⟦<MemorySink as Sink>⟧.room self.new) result }
-        ensures cause { HasCause (⟦<MemorySink as Sink>⟧.faults self.old)
+        ensures faults { CountsFault (⟦<MemorySink as Sink>⟧.faults self.old)
             (⟦<MemorySink as Sink>⟧.faults self.new) result }
         ensures never_falls { ⟦<MemorySink as Sink>⟧.faults self.old
             ≤ ⟦<MemorySink as Sink>⟧.faults self.new }

@@ -1,10 +1,9 @@
-ghost use Rattle.std.specs.Prelude.{◌≡◌, ◌↔◌, ℕ, ◌+◌, ◌≤◌, ◌<◌, ◌^◌, min, length, drop, [], ◌∷◌, Some, false, vec_len, IsErr, IfOk, IfSome, MatchResult, All, Contains};
+ghost use Rattle.std.specs.Prelude.{◌≡◌, ◌↔◌, ℕ, ◌≤◌, ◌<◌, ◌^◌, min, length, drop, [], Some, false, IsErr, IfOk, IfSome, MatchResult, All, Contains};
 ghost use Rattle.std.specs.Io.{ReadsAtMost};
 ghost use Rattle.std.specs.Io.KnownBytes.{WriteAppends, ReadConsumes};
-ghost use Rattle.byte_io.specs.Told.{SameTold};
-ghost use Rattle.byte_io.specs.Faults.{HasCause};
+ghost use Rattle.byte_io.specs.Faults.{next_count, CountsFault};
 ghost use Rattle.byte_io.specs.Source.{Counts, MeetsEnd};
-ghost use Rattle.byte_io.specs.Memory.{next_call, piece_of};
+ghost use Rattle.byte_io.specs.Memory.{piece_of};
 ghost use Rattle.std.proofs.Common.{rules};
 
 use crate::schedule::Schedule;
@@ -84,17 +83,19 @@ impl Source for MemorySource {
 
     /// Fails exactly at the calls that are listed, and gives at most a piece of the next length.
     fn read(&mut self, piece: &mut [u8]) -> Result<usize, Failed>
-        ensures listed { IsErr result ↔ Contains (failing_calls self.old) (next_call (calls_made self.old)) }
+        ensures listed { IsErr result
+            ↔ Contains (failing_calls self.old) (next_count (calls_made self.old)) }
         ensures given { IfOk result (λ n. IfSome (⟦<MemorySource as Source>⟧.left self.old)
             (λ bytes. n ≡ piece_of (piece_lengths self.old) (min (length bytes) (length piece.new)))) }
 
         // How the schedule goes on.
-        ensures calls { calls_made self.new ≡ next_call (calls_made self.old) }
+        ensures calls { calls_made self.new ≡ next_count (calls_made self.old) }
         ensures fails { failing_calls self.new ≡ failing_calls self.old }
-        ensures lengths { MatchResult result (λ _. piece_lengths self.new ≡ drop 1 (piece_lengths self.old))
+        ensures lengths { MatchResult result
+            (λ _. piece_lengths self.new ≡ drop 1 (piece_lengths self.old))
             (λ _. piece_lengths self.new ≡ piece_lengths self.old) }
 
-        // What the trait says.
+        // What the trait says, with the faults counted.
         ensures bound { ReadsAtMost result piece.new }
         ensures count { Counts (⟦<MemorySource as Source>⟧.count self.old)
             (⟦<MemorySource as Source>⟧.count self.new) result }
@@ -102,13 +103,9 @@ impl Source for MemorySource {
             (⟦<MemorySource as Source>⟧.taken self.new) result piece.new }
         ensures left { ReadConsumes (⟦<MemorySource as Source>⟧.left self.old)
             (⟦<MemorySource as Source>⟧.left self.new) result piece.new }
-        ensures taken_told { SameTold (⟦<MemorySource as Source>⟧.taken self.old)
-            (⟦<MemorySource as Source>⟧.taken self.new) }
-        ensures left_told { SameTold (⟦<MemorySource as Source>⟧.left self.old)
-            (⟦<MemorySource as Source>⟧.left self.new) }
         ensures end { MeetsEnd (⟦<MemorySource as Source>⟧.ended self.old)
             (⟦<MemorySource as Source>⟧.ended self.new) result piece.new }
-        ensures cause { HasCause (⟦<MemorySource as Source>⟧.faults self.old)
+        ensures faults { CountsFault (⟦<MemorySource as Source>⟧.faults self.old)
             (⟦<MemorySource as Source>⟧.faults self.new) result }
         ensures never_falls { ⟦<MemorySource as Source>⟧.faults self.old
             ≤ ⟦<MemorySource as Source>⟧.faults self.new }

@@ -1,5 +1,5 @@
 ghost use Rattle.std.specs.Prelude.{◌≡◌, ◌↔◌, if◌then◌else◌, IsTrue, Contains};
-ghost use Rattle.byte_io.specs.Memory.{next_call};
+ghost use Rattle.byte_io.specs.Faults.{next_count};
 
 // The numbers of the calls that are to fail, the number of calls so far, and of faults.
 #[derive(Drop)]
@@ -22,9 +22,10 @@ impl Schedule {
 
     // Counts a call, and also a fault where the call is to fail. Answers whether it is.
     pub(crate) fn count_call(&mut self) -> bool
-        ensures listed { IsTrue result ↔ Contains self.old.fails.items (next_call self.old.calls) }
-        ensures calls { self.new.calls ≡ next_call self.old.calls }
-        ensures faults { self.new.faults ≡ (if result then next_call self.old.faults else self.old.faults) }
+        ensures listed { IsTrue result ↔ Contains self.old.fails.items (next_count self.old.calls) }
+        ensures calls { self.new.calls ≡ next_count self.old.calls }
+        ensures faults { self.new.faults
+            ≡ (if result then next_count self.old.faults else self.old.faults) }
         ensures fails { self.new.fails ≡ self.old.fails }
     {
         self.calls = self.calls.saturating_add(1);

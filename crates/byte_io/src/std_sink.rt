@@ -1,4 +1,6 @@
-ghost use Rattle.std.specs.Prelude.{◌≡◌, None};
+ghost use Rattle.std.specs.Prelude.{◌≡◌, ◌≤◌, ◌<◌, ◌^◌, length, None, IfOk};
+ghost use Rattle.std.specs.Io.{WritesAtMost};
+ghost use Rattle.byte_io.specs.Faults.{CountsFault};
 
 use crate::{Failed, Sink};
 use std::io::Write;
@@ -31,7 +33,17 @@ impl<W: Write> Sink for StdSink<W> {
 
     ghost faults = { λ s. s.faults };
 
-    fn write(&mut self, piece: &[u8]) -> Result<usize, Failed> {
+    /// Fails where the writer answers an error, or takes nothing of a piece that is not empty.
+    fn write(&mut self, piece: &[u8]) -> Result<usize, Failed>
+        // What the trait says, with the faults counted.
+        ensures bound { WritesAtMost result piece.now }
+        ensures some { IfOk result (λ n. 0 < length piece.now → 0 < n) }
+        ensures faults { CountsFault (⟦<StdSink<W> as Sink>⟧.faults self.old)
+            (⟦<StdSink<W> as Sink>⟧.faults self.new) result }
+        ensures never_falls { ⟦<StdSink<W> as Sink>⟧.faults self.old
+            ≤ ⟦<StdSink<W> as Sink>⟧.faults self.new }
+        ensures fits { ⟦<StdSink<W> as Sink>⟧.faults self.new < 2 ^ 64 }
+    {
         let _faults = self.faults;
         match self.writer.write(piece) {
             Ok(n) if n > 0 || piece.is_empty() => Ok(n),

@@ -1,4 +1,7 @@
-ghost use Rattle.std.specs.Prelude.{◌≡◌, None, false};
+ghost use Rattle.std.specs.Prelude.{◌≡◌, ◌≤◌, ◌<◌, ◌^◌, None, false};
+ghost use Rattle.std.specs.Io.{ReadsAtMost};
+ghost use Rattle.byte_io.specs.Faults.{CountsFault};
+ghost use Rattle.byte_io.specs.Source.{Counts, MeetsEnd};
 
 use crate::{Failed, Source};
 use std::io::Read;
@@ -44,7 +47,22 @@ impl<R: Read> Source for StdSource<R> {
 
     ghost faults = { λ s. s.faults };
 
-    fn read(&mut self, piece: &mut [u8]) -> Result<usize, Failed> {
+    /// Fails where the reader answers an error.
+    fn read(&mut self, piece: &mut [u8]) -> Result<usize, Failed>
+        requires { ⟦<StdSource<R> as Source>⟧.count self.old ≤ 2 ^ 63 }
+
+        // What the trait says, with the faults counted.
+        ensures bound { ReadsAtMost result piece.new }
+        ensures count { Counts (⟦<StdSource<R> as Source>⟧.count self.old)
+            (⟦<StdSource<R> as Source>⟧.count self.new) result }
+        ensures end { MeetsEnd (⟦<StdSource<R> as Source>⟧.ended self.old)
+            (⟦<StdSource<R> as Source>⟧.ended self.new) result piece.new }
+        ensures faults { CountsFault (⟦<StdSource<R> as Source>⟧.faults self.old)
+            (⟦<StdSource<R> as Source>⟧.faults self.new) result }
+        ensures never_falls { ⟦<StdSource<R> as Source>⟧.faults self.old
+            ≤ ⟦<StdSource<R> as Source>⟧.faults self.new }
+        ensures fits { ⟦<StdSource<R> as Source>⟧.faults self.new < 2 ^ 64 }
+    {
         let _faults = self.faults;
         match self.reader.read(piece) {
             Ok(n) => {

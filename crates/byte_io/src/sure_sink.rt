@@ -1,8 +1,5 @@
-ghost use Rattle.std.specs.Prelude.{◌≡◌, ◌+◌, ◌≤◌, ◌<◌, ◌^◌, length, [], Some, vec_len, vec_capacity, IsOk, IfOk};
-ghost use Rattle.std.specs.Io.{WritesAtMost};
+ghost use Rattle.std.specs.Prelude.{◌≡◌, ◌+◌, ◌≤◌, length, [], Some, vec_len, vec_capacity, IsOk, IfOk};
 ghost use Rattle.std.specs.Io.KnownBytes.{WriteAppends};
-ghost use Rattle.byte_io.specs.Told.{SameTold};
-ghost use Rattle.byte_io.specs.Faults.{HasCause};
 ghost use Rattle.byte_io.specs.Sink.{HasRoom, UsesRoom};
 
 use crate::{Failed, OutOfMemory, Sink};
@@ -57,8 +54,6 @@ impl Sink for SureSink {
         // What else the trait says.
         ensures written { WriteAppends (⟦<SureSink as Sink>⟧.written self.old)
             (⟦<SureSink as Sink>⟧.written self.new) result piece.now }
-        ensures told { SameTold (⟦<SureSink as Sink>⟧.written self.old)
-            (⟦<SureSink as Sink>⟧.written self.new) }
         ensures room { UsesRoom (⟦<SureSink as Sink>⟧.room self.old)
             (⟦<SureSink as Sink>⟧.room self.new) result }
     {

@@ -1,9 +1,6 @@
-ghost use Rattle.std.specs.Prelude.{◌≡◌, ◌+◌, ◌≤◌, ◌<◌, ◌^◌, ◌++◌, ◌↔◌, min, length, take, drop, [], false, vec_len, IsTrue, IsOk, IfOk, IfSome};
-ghost use Rattle.std.specs.Prelude.{Some};
+ghost use Rattle.std.specs.Prelude.{◌≡◌, ◌+◌, ◌≤◌, ◌<◌, ◌++◌, ◌↔◌, min, length, take, drop, [], Some, false, vec_len, IsTrue, IsOk, IfOk, IfSome};
 ghost use Rattle.std.specs.Io.{ReadsAtMost};
 ghost use Rattle.std.specs.Io.KnownBytes.{WriteAppends, ReadConsumes};
-ghost use Rattle.byte_io.specs.Told.{SameTold};
-ghost use Rattle.byte_io.specs.Faults.{HasCause};
 ghost use Rattle.byte_io.specs.Source.{Counts, MeetsEnd};
 ghost use Rattle.std.proofs.Common.{rules};
 
@@ -37,10 +34,13 @@ impl SureSource {
 
     // A read that gives at most `most` bytes.
     pub(crate) fn read_at_most(&mut self, most: usize, piece: &mut [u8]) -> usize
-        ensures length { result ≡ min (min (length (drop self.old.at self.old.bytes.items)) most) (length piece.new) }
+        ensures length { result
+            ≡ min (min (length (drop self.old.at self.old.bytes.items)) most) (length piece.new) }
         ensures count { self.new.at ≡ self.old.at + result }
-        ensures taken { take self.new.at self.new.bytes.items ≡ take self.old.at self.old.bytes.items ++ take result piece.new }
-        ensures left { drop self.old.at self.old.bytes.items ≡ take result piece.new ++ drop self.new.at self.new.bytes.items }
+        ensures taken { take self.new.at self.new.bytes.items
+            ≡ take self.old.at self.old.bytes.items ++ take result piece.new }
+        ensures left { drop self.old.at self.old.bytes.items
+            ≡ take result piece.new ++ drop self.new.at self.new.bytes.items }
         ensures end { 0 < length piece.new → IsTrue self.new.ended ↔ (result ≡ 0) }
     {
         let count = give(&self.bytes, self.at, most, piece);
@@ -66,15 +66,19 @@ impl Source for SureSource {
     /// Never fails, and gives as many bytes as are left and fit.
     fn read(&mut self, piece: &mut [u8]) -> Result<usize, Failed>
         ensures sure { IsOk result }
-        ensures whole { IfOk result (λ n. IfSome (⟦<SureSource as Source>⟧.left self.old) (λ bytes. n ≡ min (length bytes) (length piece.new))) }
+        ensures whole { IfOk result (λ n. IfSome (⟦<SureSource as Source>⟧.left self.old)
+            (λ bytes. n ≡ min (length bytes) (length piece.new))) }
 
+        // What else the trait says.
         ensures bound { ReadsAtMost result piece.new }
-        ensures count { Counts (⟦<SureSource as Source>⟧.count self.old) (⟦<SureSource as Source>⟧.count self.new) result }
-        ensures taken { WriteAppends (⟦<SureSource as Source>⟧.taken self.old) (⟦<SureSource as Source>⟧.taken self.new) result piece.new }
-        ensures left { ReadConsumes (⟦<SureSource as Source>⟧.left self.old) (⟦<SureSource as Source>⟧.left self.new) result piece.new }
-        ensures taken_told { SameTold (⟦<SureSource as Source>⟧.taken self.old) (⟦<SureSource as Source>⟧.taken self.new) }
-        ensures left_told { SameTold (⟦<SureSource as Source>⟧.left self.old) (⟦<SureSource as Source>⟧.left self.new) }
-        ensures end { MeetsEnd (⟦<SureSource as Source>⟧.ended self.old) (⟦<SureSource as Source>⟧.ended self.new) result piece.new }
+        ensures count { Counts (⟦<SureSource as Source>⟧.count self.old)
+            (⟦<SureSource as Source>⟧.count self.new) result }
+        ensures taken { WriteAppends (⟦<SureSource as Source>⟧.taken self.old)
+            (⟦<SureSource as Source>⟧.taken self.new) result piece.new }
+        ensures left { ReadConsumes (⟦<SureSource as Source>⟧.left self.old)
+            (⟦<SureSource as Source>⟧.left self.new) result piece.new }
+        ensures end { MeetsEnd (⟦<SureSource as Source>⟧.ended self.old)
+            (⟦<SureSource as Source>⟧.ended self.new) result piece.new }
     {
         Ok(self.read_at_most(usize::MAX, piece))
     }

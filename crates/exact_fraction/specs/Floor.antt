@@ -1,10 +1,10 @@
--- The greatest whole number not above a fraction: a whole number is not above the fraction exactly
--- where it is not above the floor.
-use Rattle.std.specs.Prelude.{◌≡◌, ℕ, zero, suc, ◌+◌, ◌*◌, ◌/◌, ◌<◌, ◌≤◌, ℤ, pos, negsuc, ◌*ℤ◌, ◌≤ℤ◌, neg_ℤ, refl, ◌↔◌}
+-- Lemmas on the floor of a fraction: a whole number is at most the fraction exactly where it is at
+-- most the floor, so equal fractions have one floor.
+use Rattle.std.specs.Prelude.{◌≡◌, ℕ, suc, ◌*◌, ◌<◌, ℤ, pos, negsuc, ◌*ℤ◌, ◌≤ℤ◌, refl}
 use Rattle.std.proofs.Common.{arith, ap, sym, subst}
 use Rattle.std.proofs.lemmas.Int.{ints}
 use Rattle.std.proofs.Math.Nat.{le-div_iff_mul-le, div-lt_iff_lt-mul}
-use Rattle.exact_fraction.specs.Fraction.{Fraction, ◌≈◌, ◌≼◌, whole, floor_of}
+use Rattle.exact_fraction.specs.Fraction.{Fraction, ◌≈◌, ◌≼◌, whole, floor_of, floor}
 use Rattle.exact_fraction.specs.FractionLaws.{≈_sym, ≼_trans, ≼-of_≈}
 use Rattle.exact_fraction.specs.Whole.{le_both, le_same}
 
@@ -19,10 +19,6 @@ below_floor (pos c) (pos n) d d0 h = let g = (le-div_iff_mul-le {k = d} {x = c} 
 below_floor (pos c) (negsuc n) d d0 h = absurd (omega (arith, ints))
 below_floor (negsuc c) (pos n) d d0 h = omega (arith, ints)
 below_floor (negsuc c) (negsuc n) d d0 h = let g = (div-lt_iff_lt-mul {k = d} {x = n} {y = suc c} d0).0 (omega (arith, ints)) in omega (arith, ints)
-
--- the greatest whole number not above a fraction
-unfoldable pub floor : Fraction → ℤ
-floor q = floor_of q.num q.den
 
 pub times_one : (z : ℤ) → (z *ℤ pos 1) ≡ z
 times_one (pos n) = ap pos (omega arith)

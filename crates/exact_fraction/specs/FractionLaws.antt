@@ -1,7 +1,8 @@
--- Equality of fractions is an equivalence, the order is one of values, and sums, products, negatives
--- and inverses respect both. Each is an identity of whole numbers, stated first over their parts.
-use Rattle.std.specs.Prelude.{◌≡◌, ℕ, zero, suc, ◌+◌, ◌*◌, ◌<◌, ◌≤◌, ℤ, pos, negsuc, ◌+ℤ◌, ◌*ℤ◌, ◌≤ℤ◌, neg_ℤ, ◌⊎◌, refl, Bool, true, false}
-use Rattle.std.proofs.Common.{ap, sym, arith, inl, inr}
+-- Lemmas on fractions: equality is an equivalence, the order is total, sums, products and negatives
+-- respect equality, and sums the order. Each is an identity or an inequality of whole numbers, stated
+-- first over the fractions' parts.
+use Rattle.std.specs.Prelude.{◌≡◌, ℕ, ◌+◌, ◌*◌, ◌<◌, ◌≤◌, ℤ, pos, negsuc, ◌+ℤ◌, ◌*ℤ◌, ◌≤ℤ◌, neg_ℤ, ◌⊎◌, refl, Bool, true, false}
+use Rattle.std.proofs.Common.{sym, arith, inl, inr}
 use Rattle.std.proofs.lemmas.Int.{ints}
 use Rattle.std.proofs.lemmas.Bool.{cases_lt}
 use borrow.Author.Differences.{up, down}
@@ -57,8 +58,10 @@ pub ≼_total : (q r : Fraction) → (q ≼ r) ⊎ (r ≼ q)
 ≼_total q r = by (cases_lt (up b + down a) (up a + down b)) where
   a : ℤ
   a = q.num *ℤ pos r.den
+
   b : ℤ
   b = r.num *ℤ pos q.den
+
   by : ((up b + down a) < (up a + down b)) ⊎ ((up a + down b) ≤ (up b + down a)) → (q ≼ r) ⊎ (r ≼ q)
   by (inl h) = inr (record { at_most = omega (arith, ints) })
   by (inr h) = inl (record { at_most = omega (arith, ints) })

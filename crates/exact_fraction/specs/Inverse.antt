@@ -1,8 +1,8 @@
--- The inverse of a fraction that is not 0.
-use Rattle.std.specs.Prelude.{◌≡◌, ℕ, zero, suc, ◌+◌, ◌*◌, ◌<◌, ◌≤◌, ℤ, pos, negsuc, ◌+ℤ◌, ◌*ℤ◌, neg_ℤ, refl, Bool, true, false}
+-- Lemmas on the inverse: equal fractions have equal inverses, and a fraction that is not 0 times its
+-- inverse is 1.
+use Rattle.std.specs.Prelude.{◌≡◌, ℕ, zero, suc, ◌*◌, ◌<◌, ℤ, pos, negsuc, ◌*ℤ◌, neg_ℤ, refl, false}
 use Rattle.std.proofs.Common.{arith, ap}
 use Rattle.std.proofs.lemmas.Bool.{true≢false}
-use Rattle.std.proofs.Math.Nat.{mul-pos}
 use Rattle.std.proofs.lemmas.Int.{ints}
 use Rattle.exact_fraction.specs.Fraction.{Fraction, ◌≈◌, ◌⊗◌, whole, inverse, inverse_of, is_zero_ℤ}
 use Rattle.exact_fraction.specs.FractionLaws.{≈_refl}

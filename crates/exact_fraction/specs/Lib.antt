@@ -1,7 +1,9 @@
-pub mod Whole
+-- Read Fraction and Number, which have the definitions. The other files have lemmas, by which those of
+-- Number are definitions, and on which the crates above rest theirs.
 pub mod Fraction
+pub mod Number
+pub mod NumberLaws
 pub mod FractionLaws
 pub mod Floor
 pub mod Inverse
-pub mod Number
-pub mod NumberLaws
+pub mod Whole

@@ -1,6 +1,6 @@
--- The laws of the numbers: a commutative ring with inverses, a total order that sums and products
--- respect, and a floor.
-use Rattle.std.specs.Prelude.{◌≡◌, ℕ, ◌*◌, ◌<◌, Bool, true, false, ℤ, pos, negsuc, ◌+ℤ◌, ◌*ℤ◌, ◌≤ℤ◌, neg_ℤ, refl, ◌⊎◌}
+-- Lemmas on the numbers: a commutative ring with inverses, a total order that sums and products
+-- respect, whole numbers among them, and the floor.
+use Rattle.std.specs.Prelude.{◌≡◌, ℕ, ◌*◌, Bool, true, false, ℤ, pos, negsuc, ◌+ℤ◌, ◌*ℤ◌, ◌≤ℤ◌, neg_ℤ, refl, ◌⊎◌}
 use Rattle.std.proofs.Common.{sym, ◌∙◌, ap, arith, inl, inr, subst}
 use Rattle.std.proofs.lemmas.Bool.{true≢false}
 use Rattle.std.proofs.lemmas.Int.{ints}
@@ -9,12 +9,12 @@ use Rattle.std.proofs.Math.IntN.{zero-*ℤ}
 use borrow.Author.Differences.{up, down}
 use lib.Dec.{T_prop}
 use mathlib.Core.HLevel.{Π_prop}
-use std.Quotient.{◌/◌, cls, eq/, /_set, /_rec, /_rec₂, /_elim_prop, /_elim_prop₂, /_elim_prop₃, effective}
+use std.Quotient.{cls, eq/, /_set, /_rec, /_rec₂, /_elim_prop, /_elim_prop₂, /_elim_prop₃, effective}
 use Rattle.exact_fraction.specs.Whole.{diff_of, diff_same, diff, diff_le, le_diff, push, le_from}
-use Rattle.exact_fraction.specs.Fraction.{Fraction, ◌≈◌, ◌≼◌, ◌⊕◌, ◌⊗◌, negated, whole, inverse, is_zero_ℤ, is_at_most}
-use Rattle.exact_fraction.specs.FractionLaws.{≈_prop, ≈-IsEquivRel, ≈_refl, ≼_refl, ≼_trans, ≼_antisym, ≼_total, ⊕_comm, ⊕_assoc, ⊕-≼, ⊗_comm, ⊗_assoc, ⊗-⊕, is_at_most-≼, ≼-is_at_most}
+use Rattle.exact_fraction.specs.Fraction.{Fraction, ◌≈◌, ◌≼◌, ◌⊕◌, ◌⊗◌, negated, whole, is_at_most}
+use Rattle.exact_fraction.specs.FractionLaws.{≈_prop, ≈-IsEquivRel, ≼_refl, ≼_trans, ≼_antisym, ≼_total, ⊕_comm, ⊕_assoc, ⊕-≼, ⊗_comm, ⊗_assoc, ⊗-⊕, is_at_most-≼, ≼-is_at_most}
 use Rattle.exact_fraction.specs.Inverse.{⊗-inverse}
-use Rattle.exact_fraction.specs.Floor.{floor, ≤floor, floor-≤, times_one}
+use Rattle.exact_fraction.specs.Floor.{≤floor, floor-≤, times_one}
 use Rattle.exact_fraction.specs.Number.{ℚ, of_ℤ, ◌+ℚ◌, ◌*ℚ◌, neg_ℚ, inv_ℚ, is_zero_ℚ, is_at_most_ℚ, ◌≤ℚ◌, floor_ℚ}
 
 -- ---- fractions and numbers

@@ -1,7 +1,7 @@
--- Whole numbers with a sign, ℤ of the Prelude: the means by which each identity and each inequality
--- between polynomials of them is one line. A number is read as a difference of two natural numbers,
--- `push` carries sums, products and negations into the two, and `omega` compares them.
-use Rattle.std.specs.Prelude.{◌≡◌, ℕ, ◌+◌, ◌*◌, ◌<◌, ◌≤◌, suc, ℤ, pos, negsuc, ◌+ℤ◌, ◌*ℤ◌, ◌≤ℤ◌, ◌<ℤ◌, neg_ℤ}
+-- Lemmas on whole numbers with a sign, by which each identity and each inequality between polynomials
+-- of them is one line. A number is read as a difference of two natural numbers, `push` carries sums,
+-- products and negations into the two, and `omega` compares them.
+use Rattle.std.specs.Prelude.{◌≡◌, ℕ, ◌+◌, ◌*◌, ◌<◌, ◌≤◌, suc, ℤ, pos, negsuc, ◌+ℤ◌, ◌*ℤ◌, ◌≤ℤ◌, neg_ℤ}
 use Rattle.std.proofs.Common.{ap, sym, arith}
 use Rattle.std.proofs.Math.Nat.{mul-le-mul_right, le_of_mul-le-mul_right}
 use Rattle.std.proofs.lemmas.Int.{ints}

@@ -2,7 +2,7 @@ use Rattle.std.proofs.Common.{refl}
 use std.Quotient.{/_rec, /_rec₂}
 use Rattle.exact_fraction.specs.Fraction as fraction
 use Rattle.exact_fraction.specs.Fraction.{◌⊗◌, inverse, is_at_most}
-use Rattle.exact_fraction.specs.Floor.{floor}
+use Rattle.exact_fraction.specs.Fraction.{floor}
 use Rattle.exact_fraction.specs.Number.{◌*ℚ◌, inv_ℚ, neg_ℚ, is_at_most_ℚ, floor_ℚ}
 use Rattle.decimal18.specs.Down.{is_in_range, cut_off, down, up}
 use Rattle.decimal18.proofs.laws.worked_roundings.Goals as goal

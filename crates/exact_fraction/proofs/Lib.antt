@@ -1,0 +1,3 @@
+pub mod OrderLaws
+pub mod Quotients
+pub mod Ring

@@ -1,0 +1,6 @@
+pub mod ReadingWords
+pub mod ReadingNumbers
+pub mod ReadingForms
+pub mod Kept
+pub mod Sound
+pub mod Standing

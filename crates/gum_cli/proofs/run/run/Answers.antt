@@ -1,0 +1,18 @@
+use Rattle.std.proofs.Common.{◌≡◌, [], subst, rules}
+use Rattle.byte_io.specs.Sink.{Wrote}
+use Rattle.gum_cli.specs.Words.{lines_of}
+use Rattle.gum_cli.specs.Script.{out}
+use Rattle.gum_cli.proofs.Sound.{all_sound}
+use Rattle.gum_cli.proofs.run.run.Goals as goal
+
+pub returns-in-Ok-write_all-clause-done : goal.returns-in-Ok-write_all-clause-done
+returns-in-Ok-write_all-clause-done g c =
+    λ _. record {
+      script = c.in-Ok.script.items;
+      took = c.in-Ok.ensures.whole;
+      short = c.in-Ok.ensures.short;
+      met_end = search rules;
+      none_left = search rules;
+      wrote = search rules;
+      sound = all_sound [] (lines_of c.in-Ok.script.items);
+    }

@@ -1,0 +1,45 @@
+-- What a run does, by how it ends.
+use Rattle.std.specs.Prelude.{◌≡◌, ℕ, ◌≤◌, Bool, true, false, IsTrue, if◌then◌else◌, List, [], ◌∷◌, length, Option, Some, None, String, string_bytes, bytes_eq, codes}
+use Rattle.std.specs.Io.KnownBytes.{IsAtEnd}
+use Rattle.std.specs.declared.alloc.Global.{Global}
+use Rattle.byte_io.specs.Source.{Took}
+use Rattle.byte_io.specs.Sink.{HasRoom, Wrote, WrotePart}
+use Rattle.gum_cli.specs.Words.{lines_of}
+use Rattle.gum_cli.specs.Script.{out, early, AreSound}
+
+-- the most bytes of a script
+abbrev pub script_limit : ℕ
+script_limit = 16777216
+
+-- the words that are accepted: the program's own name, and `run`
+abbrev pub is_run : List (String Global) → Bool
+is_run (program ∷ word ∷ []) = bytes_eq (string_bytes word) (codes "run")
+is_run words = false
+
+-- a bounded sink has room for all replies, which are known where the source tells its bytes
+abbrev pub RoomForReplies : Option ℕ → Option (List ℕ) → Type 0
+RoomForReplies None left = Unit {0}
+RoomForReplies (Some room) None = ⊥
+RoomForReplies (Some room) (Some left) = length (out left) ≤ room
+
+-- the replies that are due: to all lines where the end was met, and else to the whole ones
+abbrev pub due : Bool → List ℕ → List ℕ
+due ended script = if ended then out script else early script
+
+-- a run that is done: the source was read to its end, and the replies to what it gave were written, each of them sound
+pub record IsDone (count count' : ℕ) (taken taken' left left' : Option (List ℕ)) (ended' : Bool)
+    (written written' : Option (List ℕ)) (room room' : Option ℕ) : Type 0 where
+  pub script : List ℕ
+  pub took : Took count count' taken taken' left left' script
+  pub short : length script ≤ script_limit
+  pub met_end : IsTrue ended'
+  pub none_left : IsAtEnd left'
+  pub wrote : Wrote written written' room room' (out script)
+  pub sound : AreSound [] (lines_of script)
+
+-- a run that was cut off: what was written is a front of what was due
+pub record IsCutOff (count count' : ℕ) (taken taken' left left' : Option (List ℕ)) (ended' : Bool)
+    (written written' : Option (List ℕ)) (room room' : Option ℕ) : Type 0 where
+  pub script : List ℕ
+  pub took : Took count count' taken taken' left left' script
+  pub wrote : WrotePart written written' room room' (due ended' script)

@@ -1,0 +1,132 @@
+ghost use Rattle.std.specs.Prelude.{◌≡◌, ◌<◌, ◌≤◌, ◌↔◌, length, IsNone, IfSome, if◌then◌else◌};
+ghost use Rattle.std.specs.List.{list_all};
+ghost use Rattle.gum_cli.specs.Words.{is_plain_name, begins_name, goes_on_name};
+ghost use Rattle.std.specs.Hash as fed;
+ghost use Rattle.std.specs.Cmp.Rules.{hashing};
+ghost use Rattle.std.proofs.Common.{rules};
+
+use std::hash::{Hash, Hasher};
+use std::marker::Model;
+
+/// The most bytes of a name.
+pub const NAME_LIMIT: usize = 24;
+
+/// The name of a row, at most 24 bytes, held inline.
+#[derive(Clone, Copy, Debug)]
+pub struct Name {
+    text: [u8; 24],
+    len: u8,
+}
+
+impl Model for Name {
+    ghost use Rattle.std.specs.Prelude.{ℕ, List, take};
+
+    ghost Value = { List ℕ };
+
+    ghost use Rattle.gum_cli.specs.Padded.{IsPadded, padded, padded_ok};
+
+    ghost view = { λ name. take name.len name.text };
+
+    ghost invariant = { IsPadded };
+
+    ghost inverse = { padded };
+
+    ghost inverse_ok = { padded_ok };
+}
+
+impl Name {
+    /// The name that `bytes` spell, and `None` where they are more than 24.
+    pub fn new(bytes: &[u8]) -> Option<Name>
+        ensures some { IfSome result (λ name. name ≡ bytes.now) }
+        ensures none { IsNone result ↔ (24 < length bytes.now) }
+    {
+        if bytes.len() > NAME_LIMIT {
+            return None;
+        }
+        let mut text = [0u8; 24];
+        text[..bytes.len()].copy_from_slice(bytes);
+        Some(Name {
+            text,
+            len: bytes.len() as u8,
+        })
+    }
+
+    pub fn as_bytes(&self) -> &[u8]
+        ensures text { result.now ≡ self.now }
+        ensures short { length result.now ≤ 24 }
+    {
+        &self.text[..self.len as usize]
+    }
+}
+
+impl PartialEq for Name {
+    ghost use Rattle.std.specs.Prelude.{bytes_eq};
+    ghost use Rattle.std.specs.Cmp.{partial_equiv_from_equiv};
+    ghost use Rattle.std.specs.Cmp.Lexicographic.{nat_list_eq_equiv};
+
+    ghost eq = { bytes_eq };
+
+    ghost laws = { partial_equiv_from_equiv nat_list_eq_equiv };
+
+    fn eq(&self, other: &Name) -> bool {
+        self.as_bytes() == other.as_bytes()
+    }
+}
+
+impl Eq for Name {
+    ghost use Rattle.std.specs.Cmp.Lexicographic.{nat_list_eq_equiv};
+
+    ghost laws = { nat_list_eq_equiv };
+}
+
+impl Hash for Name {
+    ghost hash_input = { fed.slice fed.u8 };
+
+    ghost respects_eq = { Prim.search (hashing, rules) };
+
+    fn hash<H: Hasher>(&self, state: &mut H) {
+        self.as_bytes().hash(state);
+    }
+}
+
+/// Whether a name may begin with this byte: a letter or `_`.
+fn begins_name(byte: u8) -> bool
+    ensures { result ≡ begins_name byte }
+{
+    byte.is_ascii_alphabetic() || byte == b'_'
+}
+
+/// Whether a name may go on with this byte: a letter, a digit or `_`.
+fn goes_on_name(byte: u8) -> bool
+    ensures { result ≡ goes_on_name byte }
+{
+    byte.is_ascii_alphanumeric() || byte == b'_'
+}
+
+/// Whether a name may go on with these bytes.
+fn all_go_on_name(bytes: &[u8]) -> bool
+    ensures { result ≡ list_all goes_on_name bytes.now }
+{
+    bytes.iter().all(|byte| goes_on_name(*byte))
+}
+
+/// Whether the word is a plain name: a letter or `_`, then letters, digits and `_`, and at most
+/// `NAME_LIMIT` bytes.
+pub fn is_plain_name(word: &[u8]) -> bool
+    ensures { result ≡ is_plain_name word.now }
+{
+    let Some((first, others)) = word.split_first() else {
+        return false;
+    };
+    begins_name(*first) && all_go_on_name(others) && others.len() < NAME_LIMIT
+}
+
+/// The name that the word is, where it is a plain name.
+pub fn read_name(word: &[u8]) -> Option<Name>
+    ensures { result ≡ (if is_plain_name word.now then Some word.now else None) }
+{
+    if !is_plain_name(word) {
+        return None;
+    }
+    Name::new(word)
+}

@@ -1,0 +1,152 @@
+ghost use Rattle.std.specs.Prelude.{◌≡◌, ◌≢◌, ◌+◌, ◌≤◌, ◌<◌, ◌^◌, ◌⊎◌, ◌↔◌, true, false, IsTrue, IsFalse, IfOk, OnOk, OnErr, List, ℕ, length, Some, Err};
+ghost use Rattle.std.specs.Io.KnownBytes.{IsAtEnd};
+ghost use Rattle.byte_io.specs.Faults.{Rose, HasCause};
+ghost use Rattle.byte_io.specs.Source.{Took};
+ghost use Rattle.byte_io.specs.Sink.{HasRoom, Wrote, WrotePart};
+ghost use Rattle.gum_cli.specs.Run.{script_limit, is_run, RoomForReplies, IsDone, IsCutOff};
+
+use crate::respond::respond;
+use byte_io::{Failed, Sink, Source};
+use decimal18::OutOfMemory;
+use fixed_interval::Steps;
+use std::alloc::Global;
+use std::sync::ledger::Ledger;
+
+/// How a run ends.
+#[derive(Clone, Copy, Debug, PartialEq, Eq)]
+pub enum Status {
+    /// The script was read to its end and all replies were written.
+    Done,
+    /// The words are none that the program knows. Nothing was read or written.
+    Usage,
+    ReadFault,
+    WriteFault,
+    /// The script has more than 16,777,216 bytes.
+    InputLimit,
+    OutOfMemory,
+}
+
+/// The most bytes of a script.
+const SCRIPT_LIMIT: usize = 16_777_216;
+
+/// Why a script was not read to its end.
+#[derive(Drop, Debug)]
+enum Unread {
+    Fault,
+    Limit,
+    OutOfMemory,
+}
+
+// Writes all of `bytes`, in as many writes as the sink takes.
+fn write_all<K: Sink>(sink: &mut K, bytes: &[u8]) -> Result<(), Failed>
+    requires { HasRoom (K.room sink.old) (length bytes.now) }
+    ensures whole { OnOk result (Wrote (K.written sink.old) (K.written sink.new)
+        (K.room sink.old) (K.room sink.new) bytes.now) }
+    ensures part { OnErr result (WrotePart (K.written sink.old) (K.written sink.new)
+        (K.room sink.old) (K.room sink.new) bytes.now) }
+    ensures cause { HasCause (K.faults sink.old) (K.faults sink.new) result }
+    ensures never_falls { K.faults sink.old ≤ K.faults sink.new }
+{
+    let mut at = 0;
+    'writes: while at < bytes.len() {
+        at += sink.write(&bytes[at..])?;
+    }
+    Ok(())
+}
+
+// Reads the source to its end.
+fn read_all<S: Source>(alloc: Global, source: &mut S) -> Result<Vec<u8>, Unread>
+    requires { S.count source.old ≤ 2 ^ 62 }
+    ensures whole { IfOk result (λ script. Took (S.count source.old) (S.count source.new)
+        (S.taken source.old) (S.taken source.new) (S.left source.old) (S.left source.new) script.items) }
+    ensures short { IfOk result (λ script. length script.items ≤ script_limit) }
+    ensures met_end { OnOk result (IsTrue (S.ended source.new)) }
+    ensures none_left { OnOk result (IsAtEnd (S.left source.new)) }
+    ensures part { OnErr result ((bytes : List ℕ) × Took (S.count source.old) (S.count source.new)
+        (S.taken source.old) (S.taken source.new) (S.left source.old) (S.left source.new) bytes) }
+    ensures fault { result ≡ Err Unread.Fault → Rose (S.faults source.old) (S.faults source.new) }
+    ensures limit { result ≡ Err Unread.Limit → S.count source.old + script_limit < S.count source.new }
+    ensures over { S.count source.old + script_limit < S.count source.new
+        → (result ≡ Err Unread.Limit) ⊎ (result ≡ Err Unread.OutOfMemory) }
+    ensures never_falls { S.faults source.old ≤ S.faults source.new }
+{
+    let mut script = Vec::new(alloc);
+    let mut piece = [0u8; 65_536];
+    'pieces: loop {
+        let Ok(count) = source.read(&mut piece) else {
+            return Err(Unread::Fault);
+        };
+        if count == 0 {
+            return Ok(script);
+        }
+        if script.len() + count > SCRIPT_LIMIT {
+            return Err(Unread::Limit);
+        }
+        if script.extend_from_slice(&piece[..count]).is_err() {
+            return Err(Unread::OutOfMemory);
+        }
+    }
+}
+
+// Whether the words are the program's own name and `run`.
+fn says_run(words: &Vec<String>) -> bool
+    ensures { result ≡ is_run words.now.items }
+{
+    match words.as_slice() {
+        [_, word] => word.as_bytes() == b"run".as_slice(),
+        _ => false,
+    }
+}
+
+/// Reads a script from the source to its end and writes the reply to each of its lines to the sink.
+pub fn run<S: Source, K: Sink, L: Ledger>(
+    alloc: Global,
+    words: &Vec<String>,
+    source: &mut S,
+    sink: &mut K,
+    steps: &mut Steps<L>,
+) -> Status
+    requires count { S.count source.old ≤ 2 ^ 62 }
+    requires room { RoomForReplies (K.room sink.old) (S.left source.old) }
+
+    // All replies were written, and each interval among them encloses its exact value.
+    ensures done { result ≡ Status.Done → IsDone (S.count source.old) (S.count source.new)
+        (S.taken source.old) (S.taken source.new) (S.left source.old) (S.left source.new) (S.ended source.new)
+        (K.written sink.old) (K.written sink.new) (K.room sink.old) (K.room sink.new) }
+
+    // Else a front of what was due was written, and nothing where the replies were not begun.
+    ensures cut_off { result ≢ Status.Usage → IsCutOff (S.count source.old) (S.count source.new)
+        (S.taken source.old) (S.taken source.new) (S.left source.old) (S.left source.new) (S.ended source.new)
+        (K.written sink.old) (K.written sink.new) (K.room sink.old) (K.room sink.new) }
+    ensures written_at_end { result ≡ Status.WriteFault → IsTrue (S.ended source.new) }
+    ensures nothing_written { result ≢ Status.Done → result ≢ Status.WriteFault → sink.new ≡ sink.old }
+
+    ensures usage { (result ≡ Status.Usage) ↔ IsFalse (is_run words.now.items) }
+    ensures nothing_read { result ≡ Status.Usage → source.new ≡ source.old }
+
+    ensures read_fault { result ≡ Status.ReadFault → Rose (S.faults source.old) (S.faults source.new) }
+    ensures write_fault { result ≡ Status.WriteFault → Rose (K.faults sink.old) (K.faults sink.new) }
+
+    // More than the limit was taken exactly at the input limit, but for want of memory.
+    ensures input_limit { result ≡ Status.InputLimit
+        → S.count source.old + script_limit < S.count source.new }
+    ensures over_limit { S.count source.old + script_limit < S.count source.new
+        → (result ≡ Status.InputLimit) ⊎ (result ≡ Status.OutOfMemory) }
+{
+    if !says_run(words) {
+        return Status::Usage;
+    }
+    let script = match read_all(alloc, source) {
+        Ok(script) => script,
+        Err(Unread::Fault) => return Status::ReadFault,
+        Err(Unread::Limit) => return Status::InputLimit,
+        Err(Unread::OutOfMemory) => return Status::OutOfMemory,
+    };
+    let Ok(replies) = respond(alloc, &script, steps) else {
+        return Status::OutOfMemory;
+    };
+    match write_all(sink, &replies) {
+        Ok(()) => Status::Done,
+        Err(Failed) => Status::WriteFault,
+    }
+}
