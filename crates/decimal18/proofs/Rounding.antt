@@ -11,7 +11,7 @@ use Rattle.std.proofs.lemmas.Int.{ints}
 use Rattle.exact_fraction.specs.Number.{ℚ, of_ℤ, ◌≤ℚ◌, is_at_most_ℚ}
 use Rattle.exact_fraction.specs.NumberLaws.{≤ℚ_trans, ≤ℚ_antisym, ≤ℚ_same, ≤ℤ-of_≤ℚ}
 use Rattle.decimal18.specs.Bound.{Bound, scaled, value_of, canonical, IsBound, IsCanonical}
-use Rattle.decimal18.specs.Down.{IsDown, IsInRange, top, is_in_range, floor_at, has_18_digits, cut_off, down}
+use Rattle.decimal18.specs.Down.{IsDown, IsInRange, top, is_in_range, floor_at, fits_18_digits, cut_off, down}
 use Rattle.decimal18.proofs.Values.{value-shifted, value-rises, value-whole, under_floor, under_value}
 use Rattle.decimal18.proofs.Canonical.{IsReduced-canonical, one_canonical}
 
@@ -55,9 +55,9 @@ finer_low x m p k small low h =
 
 -- no more places would do: there are 36, or the floor at one more has more than 18 digits
 IsLong : ℚ → ℕ → Type 0
-IsLong x p = (p ≡ 36) ⊎ (has_18_digits (floor_at x (p + 1)) ≡ false)
+IsLong x p = (p ≡ 36) ⊎ (fits_18_digits (floor_at x (p + 1)) ≡ false)
 
-too_long : (z : ℤ) → has_18_digits z ≡ false → (pos (10 ^ 18) ≤ℤ z) ⊎ (z ≤ℤ neg_ℤ (pos (10 ^ 18)))
+too_long : (z : ℤ) → fits_18_digits z ≡ false → (pos (10 ^ 18) ≤ℤ z) ⊎ (z ≤ℤ neg_ℤ (pos (10 ^ 18)))
 too_long (pos a) h = let g = ltb-false _ _ h in inl (omega (arith, ints))
 too_long (negsuc a) h = let g = ltb-false _ _ h in inr (omega (arith, ints))
 
@@ -84,7 +84,7 @@ by_places x p b bound below (inr e) (inl h) =
     (more_places x b.coefficient p (b.places - (p + 1)) bound.digits (rw k below) (too_long (floor_at x (p + 1)) e))
 
 -- the floor at the most places that leave 18 digits is the greatest bound not above
-greatest_at : (x : ℚ) (p : ℕ) → p ≤ 36 → has_18_digits (floor_at x p) ≡ true → IsLong x p → IsDown x (canonical (floor_at x p) p)
+greatest_at : (x : ℚ) (p : ℕ) → p ≤ 36 → fits_18_digits (floor_at x p) ≡ true → IsLong x p → IsDown x (canonical (floor_at x p) p)
 greatest_at x p most short long =
     let c = floor_at x p in
     let reduced = IsReduced-canonical c p in
@@ -96,14 +96,14 @@ greatest_at x p most short long =
     }
 
 -- ---- the range
-whole_floor : (x : ℚ) → IsInRange x → has_18_digits (floor_at x 0) ≡ true
+whole_floor : (x : ℚ) → IsInRange x → fits_18_digits (floor_at x 0) ≡ true
 whole_floor x range =
     let low : neg_ℤ top ≤ℤ floor_at x 0 = under_floor (neg_ℤ top) 0 x (≤ℚ_trans _ _ _ (≤ℚ_same _ _ (value-whole (neg_ℤ top))) range.low) in
     let below : of_ℤ (floor_at x 0) ≤ℚ of_ℤ top =
     ≤ℚ_trans _ _ _ (≤ℚ_same _ _ (sym (value-whole (floor_at x 0))))
     (≤ℚ_trans _ _ _ (under_value (floor_at x 0) 0 x (≤ℤ_refl (floor_at x 0))) range.high) in
     short (floor_at x 0) low (≤ℤ-of_≤ℚ _ _ below) where
-      short : (z : ℤ) → neg_ℤ top ≤ℤ z → z ≤ℤ top → has_18_digits z ≡ true
+      short : (z : ℤ) → neg_ℤ top ≤ℤ z → z ≤ℤ top → fits_18_digits z ≡ true
       short (pos a) h k = lt-ltb _ _ (omega (arith, ints))
       short (negsuc a) h k = lt-ltb _ _ (omega (arith, ints))
 
@@ -118,24 +118,24 @@ unfolding is_in_range
 IsInRange-is_in_range x h = and_from (is_at_most_ℚ (of_ℤ (neg_ℤ top)) x) (is_at_most_ℚ x (of_ℤ top)) h.low.holds h.high.holds
 
 -- ---- the function
-cut_off_step : (x : ℚ) (p : ℕ) (t : Bool) → has_18_digits (floor_at x (suc p)) ≡ t → suc p ≤ 36 → IsLong x (suc p)
+cut_off_step : (x : ℚ) (p : ℕ) (t : Bool) → fits_18_digits (floor_at x (suc p)) ≡ t → suc p ≤ 36 → IsLong x (suc p)
     → (IsLong x p → IsDown x (cut_off x p))
     → IsDown x (cond t (canonical (floor_at x (suc p)) (suc p)) (cut_off x p))
 unfolding IsLong
 cut_off_step x p true e most long rest = greatest_at x (suc p) most e long
-cut_off_step x p false e most long rest = rest (inr (subst (λ n. has_18_digits (floor_at x n) ≡ false) (omega arith) e))
+cut_off_step x p false e most long rest = rest (inr (subst (λ n. fits_18_digits (floor_at x n) ≡ false) (omega arith) e))
 
 IsDown-cut_off : (x : ℚ) (p : ℕ) → IsInRange x → p ≤ 36 → IsLong x p → IsDown x (cut_off x p)
 unfolding cut_off
 IsDown-cut_off x zero range most long = greatest_at x 0 most (whole_floor x range) long
 IsDown-cut_off x (suc p) range most long =
-    cut_off_step x p (has_18_digits (floor_at x (suc p))) refl most long (IsDown-cut_off x p range (omega arith))
+    cut_off_step x p (fits_18_digits (floor_at x (suc p))) refl most long (IsDown-cut_off x p range (omega arith))
 
 IsCanonical-cut_off : (x : ℚ) (p : ℕ) → IsCanonical (cut_off x p)
 unfolding cut_off
 IsCanonical-cut_off x zero = (IsReduced-canonical (floor_at x 0) 0).canonical
 IsCanonical-cut_off x (suc p) =
-    cond_both (has_18_digits (floor_at x (suc p))) _ _ IsCanonical
+    cond_both (fits_18_digits (floor_at x (suc p))) _ _ IsCanonical
     (λ _. (IsReduced-canonical (floor_at x (suc p)) (suc p)).canonical) (λ _. IsCanonical-cut_off x p)
 
 -- the answer of `down` to a number in range

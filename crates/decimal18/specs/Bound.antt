@@ -11,9 +11,11 @@ pub record Bound : Type 0 where
   pub coefficient : ℤ
   pub places : ℕ
 
+-- the pair of c and p, read as c / 10 ^ p
 abbrev pub scaled : ℤ → ℕ → Bound
 scaled c p = record { coefficient = c; places = p }
 
+-- the same number as a fraction, which is not reduced
 abbrev pub fraction_of : Bound → Fraction
 fraction_of b = record {
   num = b.coefficient;

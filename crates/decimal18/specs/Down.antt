@@ -25,6 +25,7 @@ pub record IsInRange (x : ℚ) : Type 0 where
   pub low : of_ℤ (neg_ℤ top) ≤ℚ x
   pub high : x ≤ℚ of_ℤ top
 
+-- the test of `IsInRange`
 unfoldable pub is_in_range : ℚ → Bool
 is_in_range x = is_at_most_ℚ (of_ℤ (neg_ℤ top)) x && is_at_most_ℚ x (of_ℤ top)
 
@@ -32,19 +33,21 @@ is_in_range x = is_at_most_ℚ (of_ℤ (neg_ℤ top)) x && is_at_most_ℚ x (of_
 abbrev pub floor_at : ℚ → ℕ → ℤ
 floor_at x p = floor_ℚ (x *ℚ of_ℤ (pos (10 ^ p)))
 
-abbrev pub has_18_digits : ℤ → Bool
-has_18_digits c = nat_lt (unsigned_abs c) (10 ^ 18)
+-- at most 18 digits
+abbrev pub fits_18_digits : ℤ → Bool
+fits_18_digits c = nat_lt (unsigned_abs c) (10 ^ 18)
 
 -- x cut off after as many digits as p, p - 1, .., 0 behind the point allow with 18 digits in all
 unfoldable pub cut_off : ℚ → ℕ → Bound
 cut_off x zero = canonical (floor_at x 0) 0
 cut_off x (suc p) =
-    if has_18_digits (floor_at x (suc p)) then canonical (floor_at x (suc p)) (suc p) else cut_off x p
+    if fits_18_digits (floor_at x (suc p)) then canonical (floor_at x (suc p)) (suc p) else cut_off x p
 
 -- the greatest bound not above x
 unfoldable pub down : ℚ → Option Bound
 down x = if is_in_range x then Some (cut_off x 36) else None
 
+-- the negative, with the same digits
 abbrev pub negated : Bound → Bound
 negated b = scaled (neg_ℤ b.coefficient) b.places
 

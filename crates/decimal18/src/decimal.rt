@@ -28,6 +28,7 @@ impl Model for Dec {
     ghost inverse = { λ b. record { coefficient = b.coefficient; places = b.places } };
 }
 
+// The least number of 19 digits.
 const LIMIT: u64 = 1_000_000_000_000_000_000;
 
 impl Dec {
@@ -48,7 +49,7 @@ impl Dec {
         }
     }
 
-    /// The whole number that `10^places` divides.
+    /// The whole number of which `10^places` is the divisor; it has at most 18 digits.
     pub fn coefficient(self) -> i64
         ensures value { result ≡ self.coefficient }
         ensures digits { unsigned_abs result < 10 ^ 18 }
