@@ -1,5 +1,5 @@
 -- What a run does, by how it ends.
-use Rattle.std.specs.Prelude.{◌≡◌, ℕ, ◌≤◌, Bool, true, false, IsTrue, if◌then◌else◌, List, [], ◌∷◌, length, Option, Some, None, String, string_bytes, bytes_eq, codes}
+use Rattle.std.specs.Prelude.{◌≡◌, ℕ, ◌+◌, ◌≤◌, ◌⊎◌, Bool, true, false, IsTrue, if◌then◌else◌, List, [], ◌∷◌, length, Option, Some, None, String, string_bytes, bytes_eq, codes}
 use Rattle.std.specs.Io.KnownBytes.{IsAtEnd}
 use Rattle.std.specs.declared.alloc.Global.{Global}
 use Rattle.byte_io.specs.Source.{Took}
@@ -25,6 +25,15 @@ RoomForReplies (Some room) (Some left) = length (out left) ≤ room
 -- the replies that are due: to all lines where the end was met, and else to the whole ones
 abbrev pub due : Bool → List ℕ → List ℕ
 due ended script = if ended then out script else early script
+
+-- no more bytes are left than this, and they are told
+abbrev pub HasAtMost : Option (List ℕ) → ℕ → Type 0
+HasAtMost None most = ⊥
+HasAtMost (Some left) most = length left ≤ most
+
+-- the source has no more bytes than the limit: it tells those that are left, or those taken are counted
+abbrev pub IsWithinLimit : ℕ → ℕ → Option (List ℕ) → Type 0
+IsWithinLimit count count' left = HasAtMost left script_limit ⊎ (count' ≤ count + script_limit)
 
 -- a run that is done: the source was read to its end, and the replies to what it gave were written, each of them sound
 pub record IsDone (count count' : ℕ) (taken taken' left left' : Option (List ℕ)) (ended' : Bool)

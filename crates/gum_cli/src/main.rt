@@ -7,6 +7,7 @@ mod name;
 mod read;
 mod reply;
 mod respond;
+mod rows;
 mod run;
 mod serve;
 mod sheet;

@@ -3,7 +3,7 @@ ghost use Rattle.std.specs.Io.KnownBytes.{IsAtEnd};
 ghost use Rattle.byte_io.specs.Faults.{Rose, HasCause};
 ghost use Rattle.byte_io.specs.Source.{Took};
 ghost use Rattle.byte_io.specs.Sink.{HasRoom, Wrote, WrotePart};
-ghost use Rattle.gum_cli.specs.Run.{script_limit, is_run, RoomForReplies, IsDone, IsCutOff};
+ghost use Rattle.gum_cli.specs.Run.{script_limit, is_run, RoomForReplies, IsWithinLimit, IsDone, IsCutOff};
 
 use crate::respond::respond;
 use byte_io::{Failed, Sink, Source};
@@ -132,6 +132,13 @@ pub fn run<S: Source, K: Sink, L: Ledger>(
         → S.count source.old + script_limit < S.count source.new }
     ensures over_limit { S.count source.old + script_limit < S.count source.new
         → (result ≡ Status.InputLimit) ⊎ (result ≡ Status.OutOfMemory) }
+
+    // A script within the limit is answered where neither count of faults rises, but for want of memory.
+    ensures complete { IsTrue (is_run words.now.items)
+        → (Rose (S.faults source.old) (S.faults source.new) → ⊥)
+        → (Rose (K.faults sink.old) (K.faults sink.new) → ⊥)
+        → IsWithinLimit (S.count source.old) (S.count source.new) (S.left source.old)
+        → (result ≡ Status.Done) ⊎ (result ≡ Status.OutOfMemory) }
 {
     if !says_run(words) {
         return Status::Usage;
