@@ -2,14 +2,14 @@
 use Rattle.std.proofs.Common.{◌≡◌, ◌<◌, ◌+◌, length, get_or, drop, drop-cons, add-one, ℕ, Bool, List, [], ◌∷◌, ◌++◌, Option, Some, None, refl, sym, ◌∙◌, ap, append_assoc, append-nil}
 use Rattle.std.specs.Prelude.{find, Result, Ok, Err, ok_or}
 use Rattle.std.proofs.lemmas.List.Folds.{find-append}
-use Rattle.fixed_interval.specs.Interval.{Interval, sum_span}
+use Rattle.fixed_interval.specs.Interval.{Interval}
 use Rattle.gum_cli.specs.Formula.{Formula, Add, names_of}
 use Rattle.gum_cli.specs.Sums.{operand, sums, names_among}
 use Rattle.gum_cli.specs.Sheet.{span_of_formula, sum_in}
 use Rattle.gum_cli.specs.Cells.{continued}
 use Rattle.gum_cli.specs.declared.command.Atom.{Atom}
 use Rattle.gum_cli.specs.declared.reply.Evaluation.{Evaluation}
-use Rattle.gum_cli.specs.declared.reply.Evaluation.TheVariants.{Enclosed, Overflow}
+use Rattle.gum_cli.specs.declared.reply.Evaluation.TheVariants.{Overflow}
 
 pub names-sums : (f : Formula) (atoms : List Atom) → names_of (sums f atoms) ≡ names_of f ++ names_among atoms
 names-sums f [] = sym (append-nil (names_of f))

@@ -1,15 +1,14 @@
 -- What is kept of a sheet when a row is added.
-use Rattle.std.proofs.Common.{◌≡◌, ℕ, Bool, true, false, not, List, [], ◌∷◌, ◌++◌, Option, Some, None, refl, sym, ◌∙◌, ap, subst}
+use Rattle.std.proofs.Common.{◌≡◌, ℕ, true, false, not, List, [], ◌∷◌, ◌++◌, Some, None, refl, sym, ◌∙◌, ap, subst}
 use Rattle.std.specs.Prelude.{if◌then◌else◌, find, is_some, bytes_eq}
 use mathlib.Core.Path.{fun_ext}
 use Rattle.decimal18.specs.Bound.{Bound}
 use Rattle.fixed_interval.specs.Interval.{point_span}
 use Rattle.gum_cli.specs.Formula.{Formula, names_of}
 use Rattle.gum_cli.specs.Sums.{Operands, formula_of}
-use Rattle.gum_cli.specs.Sheet.{Row, Body, Input, Function, has_row, span_of, span_of_body, span_of_formula}
-use Rattle.gum_cli.specs.Script.{first_unknown, reply_to, is_accepted, unless_unknown, row_of, sheet_after}
-use Rattle.gum_cli.specs.Cells.{Cells, kept, UsesRows, IsStanding, Keeps}
-use Rattle.gum_cli.specs.declared.command.Command.{Command}
+use Rattle.gum_cli.specs.Sheet.{Row, Input, Function, has_row, span_of, span_of_body, span_of_formula}
+use Rattle.gum_cli.specs.Script.{first_unknown, is_accepted, unless_unknown, sheet_after}
+use Rattle.gum_cli.specs.Cells.{Cells, kept, UsesRows, Keeps}
 use Rattle.gum_cli.specs.declared.command.Command.TheVariants.{Given, Let}
 use Rattle.gum_cli.specs.declared.reply.Evaluation.{Evaluation}
 use Rattle.gum_cli.specs.declared.reply.Evaluation.TheVariants.{Enclosed}

@@ -1,7 +1,6 @@
 -- What the program keeps of a sheet: the evaluation of each row, by its name, found when the row was added.
-use Rattle.std.specs.Prelude.{◌≡◌, ℕ, ◌≤◌, Bool, List, [], ◌∷◌, length, Option, Some, None, is_some, bytes_eq}
+use Rattle.std.specs.Prelude.{◌≡◌, ℕ, ◌≤◌, List, [], ◌∷◌, length, Option, Some, None, is_some, bytes_eq}
 use Rattle.std.specs.Map.{lookup}
-use Rattle.gum_cli.specs.Formula.{Formula}
 use Rattle.gum_cli.specs.Sums.{operand}
 use Rattle.gum_cli.specs.Sheet.{Row, Body, Input, Function, body_of, has_row, span_through, span_of, span_of_formula, sum_in}
 use Rattle.gum_cli.specs.Script.{first_unknown}

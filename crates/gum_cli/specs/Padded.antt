@@ -1,5 +1,5 @@
 -- A text of at most 24 bytes at the front of 24 bytes, with zeros behind it.
-use Rattle.std.specs.Prelude.{◌≡◌, ℕ, ◌-◌, ◌≤◌, List, [], ◌++◌, length, take, replicate}
+use Rattle.std.specs.Prelude.{◌≡◌, ℕ, ◌-◌, ◌≤◌, List, ◌++◌, length, take, replicate}
 use Rattle.std.proofs.Common.{ap, sym, arith}
 use Rattle.std.proofs.lemmas.List.{length-take}
 use Rattle.gum_cli.specs.declared.name.Name.TheInside.{Inside}

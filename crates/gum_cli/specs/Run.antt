@@ -1,9 +1,9 @@
 -- What a run does, by how it ends.
-use Rattle.std.specs.Prelude.{◌≡◌, ℕ, ◌+◌, ◌≤◌, ◌⊎◌, Bool, true, false, IsTrue, if◌then◌else◌, List, [], ◌∷◌, length, Option, Some, None, String, string_bytes, bytes_eq, codes}
+use Rattle.std.specs.Prelude.{ℕ, ◌+◌, ◌≤◌, ◌⊎◌, Bool, false, IsTrue, if◌then◌else◌, List, [], ◌∷◌, length, Option, Some, None, String, string_bytes, bytes_eq, codes}
 use Rattle.std.specs.Io.KnownBytes.{IsAtEnd}
 use Rattle.std.specs.declared.alloc.Global.{Global}
 use Rattle.byte_io.specs.Source.{Took}
-use Rattle.byte_io.specs.Sink.{HasRoom, Wrote, WrotePart}
+use Rattle.byte_io.specs.Sink.{Wrote, WrotePart}
 use Rattle.gum_cli.specs.Words.{lines_of}
 use Rattle.gum_cli.specs.Script.{out, early, AreSound}
 

@@ -11,6 +11,8 @@ mod rows;
 mod run;
 mod serve;
 mod sheet;
+#[cfg(test)]
+mod tests;
 mod words;
 
 ghost use Rattle.std.specs.Prelude.{◌≡◌};

@@ -1,7 +1,5 @@
-use Rattle.std.proofs.Common.{◌≡◌, [], subst, rules}
-use Rattle.byte_io.specs.Sink.{Wrote}
+use Rattle.std.proofs.Common.{[], rules}
 use Rattle.gum_cli.specs.Words.{lines_of}
-use Rattle.gum_cli.specs.Script.{out}
 use Rattle.gum_cli.proofs.Sound.{all_sound}
 use Rattle.gum_cli.proofs.run.run.Goals as goal
 

@@ -1,4 +1,4 @@
-use Rattle.std.proofs.Common.{ℕ, ◌≤◌, ◌-◌, length, arith, ap}
+use Rattle.std.proofs.Common.{◌≤◌, ◌-◌, length, arith, ap}
 use Rattle.std.proofs.lemmas.List.{take_rest, length-drop}
 use Rattle.byte_io.proofs.SinkLemmas.{HasRoom-falls, Wrote-more}
 use Rattle.gum_cli.proofs.run.write_all.Goals as goal

@@ -1,8 +1,8 @@
-use Rattle.std.proofs.Common.{◌≡◌, Some, None, sym, ◌∙◌, ap}
+use Rattle.std.proofs.Common.{◌≡◌, Some, sym, ◌∙◌, ap}
 use Rattle.gum_cli.specs.Sums.{operand, formula_of}
 use Rattle.gum_cli.specs.Sheet.{span_of_formula}
 use Rattle.gum_cli.specs.Cells.{kept, continued}
-use Rattle.gum_cli.specs.declared.reply.Evaluation.TheVariants.{Enclosed, Overflow}
+use Rattle.gum_cli.specs.declared.reply.Evaluation.TheVariants.{Enclosed}
 use Rattle.gum_cli.proofs.Kept.{span-sums, continued_none, continued_fault}
 use Rattle.gum_cli.proofs.sheet.Sheet.evaluate.Goals as goal
 

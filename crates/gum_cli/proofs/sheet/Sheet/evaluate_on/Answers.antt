@@ -1,4 +1,4 @@
-use Rattle.std.proofs.Common.{◌≡◌, ◌+◌, drop, Some, None, sym, ◌∙◌, ap}
+use Rattle.std.proofs.Common.{◌+◌, drop, Some, None, sym, ◌∙◌, ap}
 use Rattle.gum_cli.specs.Cells.{kept, continued}
 use Rattle.gum_cli.specs.Sheet.{ended}
 use Rattle.gum_cli.specs.declared.reply.Evaluation.TheVariants.{Enclosed, Overflow}

@@ -1,0 +1,196 @@
+//! Whole runs: worked scripts in pieces, and each way in which a run can end.
+
+ghost use Rattle.std.specs.Prelude.{◌≡◌, ◌≤◌, ◌^◌};
+ghost use Rattle.gum_cli.specs.Run.{RoomForReplies};
+
+use crate::run::{Status, run};
+use byte_io::{MemorySink, MemorySource, Sink, Source, StdSink, StdSource};
+use fixed_interval::Steps;
+use std::io;
+use std::io::{Read, Write};
+use std::marker::Brand;
+use std::sync::ledger::{Blank, Ledger};
+use std::test::Fail;
+
+const FIRST: &[u8; 38] = b"given X 5 std 1\nlet Y = X + 2\nvalue Y\n";
+
+const FIRST_REPLIES: &[u8; 18] = b"ok\nok\nvalue Y 7 7\n";
+
+// Takes one byte at a time.
+#[derive(Drop)]
+struct Narrow<'a> {
+    bytes: &'a mut Vec<u8>,
+}
+
+impl Write for Narrow<'_> {
+    fn write(&mut self, buf: &[u8]) -> io::Result<usize> {
+        let Some(first) = buf.first() else {
+            return Ok(0);
+        };
+        self.bytes.push(*first)?;
+        Ok(1)
+    }
+
+    fn flush(&mut self) -> io::Result<()> {
+        Ok(())
+    }
+}
+
+// Gives one byte at a time.
+#[derive(Drop)]
+struct Drip<'a> {
+    rest: &'a [u8],
+}
+
+impl Read for Drip<'_> {
+    fn read(&mut self, buf: &mut [u8]) -> io::Result<usize> {
+        let most = buf.len().min(1);
+        self.rest.read(&mut buf[..most])
+    }
+}
+
+// The words `gumtree` and `word`.
+fn words(rt: &HostRuntime, word: &str) -> Result<Vec<String>, Fail> {
+    let mut words = Vec::new(rt.alloc());
+    words.push(String::from_str(rt.alloc(), "gumtree")?)?;
+    words.push(String::from_str(rt.alloc(), word)?)?;
+    Ok(words)
+}
+
+// The status, and what is written for a script that comes byte by byte, to a sink that takes one
+// byte at a time. The counter is for the ledger that `blank` stands for.
+fn run_streams<L: Ledger>(
+    rt: &HostRuntime,
+    words: &Vec<String>,
+    script: &[u8],
+    blank: Blank,
+) -> Result<(Status, Vec<u8>), Fail>
+    requires name { blank.name ≡ L.name }
+    requires parts { blank.parts ≡ L.parts }
+    requires one { L.parts ≡ 1 }
+{
+    let mut source = StdSource::new(Drip { rest: script });
+    let mut replies = Vec::new(rt.alloc());
+    let mut sink = StdSink::new(Narrow {
+        bytes: &mut replies,
+    });
+    let mut steps = Steps::<L>::new(blank);
+    let status = run(rt.alloc(), words, &mut source, &mut sink, &mut steps);
+    drop(sink);
+    Ok((status, replies))
+}
+
+// The same between objects in memory.
+fn run_in_memory<L: Ledger>(
+    rt: &HostRuntime,
+    source: &mut MemorySource,
+    sink: &mut MemorySink,
+    blank: Blank,
+) -> Result<Status, Fail>
+    requires name { blank.name ≡ L.name }
+    requires parts { blank.parts ≡ L.parts }
+    requires one { L.parts ≡ 1 }
+    requires count { ⟦<MemorySource as Source>⟧.count source.old ≤ 2 ^ 62 }
+    requires room { RoomForReplies (⟦<MemorySink as Sink>⟧.room sink.old) (⟦<MemorySource as Source>⟧.left source.old) }
+{
+    let mut steps = Steps::<L>::new(blank);
+    Ok(run(rt.alloc(), &words(rt, "run")?, source, sink, &mut steps))
+}
+
+fn replies_to(rt: &HostRuntime, word: &str, script: &[u8]) -> Result<(Status, Vec<u8>), Fail> {
+    run_streams::<Brand>(rt, &words(rt, word)?, script, Blank::new(1))
+}
+
+macro_rules! assert_replies {
+    ($rt:expr; $($script:expr => $replies:expr),+ $(,)?) => {
+        $(
+            let (status, replies) = replies_to(&$rt, "run", $script)?;
+            assert_eq!($rt; status, Status::Done);
+            assert_eq!($rt; replies.as_slice(), $replies.as_slice());
+        )+
+    };
+}
+
+#[test]
+fn answers_scripts_byte_by_byte(rt: HostRuntime) -> Result<(), Fail> {
+    assert_replies! { rt;
+        b"" => b"",
+        FIRST => FIRST_REPLIES,
+        b"given X 5 std 1\n\nvalue X" => b"ok\nvalue X 5 5\n",
+        b"given X 5 std 1\ngiven X 6 std 1\nlet X = Y\nvalue X\n"
+            => b"ok\nrefused duplicate X\nrefused duplicate X\nvalue X 5 5\n",
+        b"let Y = 1 + X + Z\nvalue Y\n" => b"refused unknown X\nrefused no_such_result Y\n",
+        b"value  X\nvalue X\r\n\x00\xff\n" => b"refused not_built\nrefused not_built\nrefused not_built\n",
+    }
+    Ok(())
+}
+
+#[test]
+fn answers_sums_at_the_limit(rt: HostRuntime) -> Result<(), Fail> {
+    assert_replies! { rt;
+        b"let T = 999999999999999999 + 1\nvalue T\nlet U = 999999999999999998 + 1\nvalue U\n"
+            => b"ok\nfault overflow T\nok\nvalue U 999999999999999999 999999999999999999\n",
+        b"let T = 999999999999999999 + 1\nlet U = T + 1\nvalue U\n" => b"ok\nok\nfault overflow T\n",
+    }
+    Ok(())
+}
+
+#[test]
+fn runs_between_objects_in_memory(rt: HostRuntime) -> Result<(), Fail> {
+    let pieces = [3, 1].to_vec(rt.alloc())?;
+    let script = b"value X\n".to_vec(rt.alloc())?;
+    let mut source = MemorySource::new(script, Vec::new(rt.alloc()), pieces);
+    let mut sink = MemorySink::new(rt.alloc(), 25, Vec::new(rt.alloc()))?;
+    let status = run_in_memory::<Brand>(&rt, &mut source, &mut sink, Blank::new(1))?;
+    assert_eq!(rt; status, Status::Done);
+    assert_eq!(rt; sink.written(), b"refused no_such_result X\n".as_slice());
+    Ok(())
+}
+
+#[test]
+fn ends_at_a_failing_read(rt: HostRuntime) -> Result<(), Fail> {
+    let fails = [3].to_vec(rt.alloc())?;
+    let pieces = [3, 1].to_vec(rt.alloc())?;
+    let mut source = MemorySource::new(b"value X\n".to_vec(rt.alloc())?, fails, pieces);
+    let mut sink = MemorySink::new(rt.alloc(), 25, Vec::new(rt.alloc()))?;
+    let status = run_in_memory::<Brand>(&rt, &mut source, &mut sink, Blank::new(1))?;
+    assert_eq!(rt; status, Status::ReadFault);
+    assert_eq!(rt; sink.written().len(), 0);
+    Ok(())
+}
+
+#[test]
+fn ends_at_a_failing_write(rt: HostRuntime) -> Result<(), Fail> {
+    let script = b"value X\n".to_vec(rt.alloc())?;
+    let mut source = MemorySource::new(script, Vec::new(rt.alloc()), Vec::new(rt.alloc()));
+    let mut sink = MemorySink::new(rt.alloc(), 25, [1].to_vec(rt.alloc())?)?;
+    let status = run_in_memory::<Brand>(&rt, &mut source, &mut sink, Blank::new(1))?;
+    assert_eq!(rt; status, Status::WriteFault);
+    assert_eq!(rt; sink.written().len(), 0);
+    Ok(())
+}
+
+#[test]
+fn knows_one_word(rt: HostRuntime) -> Result<(), Fail> {
+    let (status, replies) = replies_to(&rt, "help", FIRST)?;
+    assert_eq!(rt; status, Status::Usage);
+    assert_eq!(rt; replies.len(), 0);
+    Ok(())
+}
+
+// The script with the most bytes is answered, and one byte more is too long.
+#[test]
+fn ends_at_the_input_limit(rt: HostRuntime) -> Result<(), Fail> {
+    let mut script = Vec::new(rt.alloc());
+    for _ in 0..16_777_216 {
+        script.push(b'\n')?;
+    }
+    let (status, replies) = replies_to(&rt, "run", &script)?;
+    assert_eq!(rt; status, Status::Done);
+    assert_eq!(rt; replies.len(), 0);
+    script.push(b'\n')?;
+    let (status, replies) = replies_to(&rt, "run", &script)?;
+    assert_eq!(rt; status, Status::InputLimit);
+    assert_eq!(rt; replies.len(), 0);
+    Ok(())
+}
