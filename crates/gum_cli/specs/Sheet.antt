@@ -7,7 +7,7 @@ use Rattle.gum_cli.specs.Formula.{Formula, Num, Var, Add, replaced, exact_value}
 use Rattle.gum_cli.specs.declared.reply.Evaluation.{Evaluation}
 use Rattle.gum_cli.specs.declared.reply.Evaluation.TheVariants.{Enclosed, Overflow}
 
--- an input with its estimate and standard uncertainty (GUM 4.1.3, 4.1.5), or a formula (GUM 4.1.1)
+-- an input with its estimate (GUM 4.1.4) and standard uncertainty (GUM 4.1.5), or a formula (GUM 4.1.1)
 pub data Body : Type 0 where
   Input : Bound → Bound → Body
   Function : Formula → Body
