@@ -3,3 +3,4 @@ pub mod Canonical
 pub mod Rounding
 pub mod Upward
 pub mod Sums
+pub mod LiteralDigits

@@ -1,3 +1,5 @@
 pub mod Bound
 pub mod Down
 pub mod Text
+pub mod Literal
+pub mod Significand

@@ -4,10 +4,13 @@
 mod byte_list;
 mod decimal;
 mod laws;
+mod literal;
+mod significand;
 #[cfg(test)]
 mod tests;
 
 pub use byte_list::Bytes;
 pub use decimal::{Dec, add_down, add_up};
+pub use literal::NumFault;
 pub use laws::{down_is_greatest, one_canonical_form, up_is_least, worked_roundings, worked_texts};
 pub use std::alloc::AllocError as OutOfMemory;

@@ -1,0 +1,155 @@
+//! Literals: texts that are numbers, read exactly.
+
+ghost use Rattle.std.specs.Prelude.{true, ◌≡◌, ℕ, ◌+◌, ◌*◌, ◌/◌, ◌%◌, ◌^◌, ◌<◌, ◌≤◌, ◌≢◌, Option, Some, None, IfSome, MatchOption, IsTrue, length, option_map};
+ghost use Rattle.std.specs.List.{list_all, prefix_len};
+ghost use Rattle.std.specs.Char.{is_ascii_digit};
+ghost use Rattle.std.specs.Str.Parse.{digits_value, digits_value_after};
+ghost use Rattle.decimal18.specs.Bound.{scaled, value_of};
+ghost use Rattle.decimal18.specs.Literal.{is_minus, signed, are_digits, are_exponent_digits, raised, lowered, front_digits, behind_digits, front_sign, behind_sign, front_point, behind_front_point, exponent_of, as_bound, parsed};
+
+use crate::Dec;
+use crate::significand::Significand;
+
+/// The most digits of an exponent.
+const EXPONENT_DIGITS: usize = 3;
+
+/// Why a text is not read as a bound.
+#[derive(Clone, Copy, Debug, PartialEq, Eq)]
+pub enum NumFault {
+    /// The text is not a literal.
+    NotNumber,
+    /// The text is a literal whose value is not a bound.
+    NumberRange,
+}
+
+/// The power of ten `10^raised / 10^lowered`.
+#[derive(Clone, Copy)]
+struct Power {
+    raised: u64,
+    lowered: u64,
+}
+
+/// 1, the power of a literal without an exponent.
+const ONE: Power = Power {
+    raised: 0,
+    lowered: 0,
+};
+
+/// Whether the text begins with a `-`, and the text behind its sign, if it has one.
+fn split_sign(text: &[u8]) -> (bool, &[u8])
+    ensures negative { result.0 ≡ is_minus (front_sign text.now) }
+    ensures rest { result.1.now ≡ behind_sign text.now }
+{
+    match text {
+        [b'+', rest @ ..] => (false, rest),
+        [b'-', rest @ ..] => (true, rest),
+        _ => (false, text),
+    }
+}
+
+/// The number of digits with which the text begins.
+fn count_of_digits(text: &[u8]) -> usize
+    ensures count { result ≡ prefix_len is_ascii_digit text.now }
+    ensures within { result ≤ length text.now }
+{
+    for (i, byte) in text.iter().enumerate() {
+        if !byte.is_ascii_digit() {
+            return i;
+        }
+    }
+    text.len()
+}
+
+/// The digits with which the text begins, and the rest.
+fn split_digits(text: &[u8]) -> (&[u8], &[u8])
+    ensures digits { result.0.now ≡ front_digits text.now }
+    ensures rest { result.1.now ≡ behind_digits text.now }
+    ensures count { length result.0.now ≡ prefix_len is_ascii_digit text.now }
+    ensures parts { length result.0.now + length result.1.now ≡ length text.now }
+    ensures all { are_digits result.0.now ≡ true }
+{
+    let count = count_of_digits(text);
+    (&text[..count], &text[count..])
+}
+
+/// The digits behind a point with which the text begins, and the rest. Where no digit is behind the
+/// point, the rest begins with the point.
+fn split_point(text: &[u8]) -> (&[u8], &[u8])
+    ensures digits { result.0.now ≡ front_point text.now }
+    ensures rest { result.1.now ≡ behind_front_point text.now }
+    ensures within { length result.0.now ≤ length text.now }
+    ensures all { are_digits result.0.now ≡ true }
+{
+    if let [b'.', behind @ ..] = text {
+        let (digits, rest) = split_digits(behind);
+        if !digits.is_empty() {
+            return (digits, rest);
+        }
+    }
+    (&text[..0], text)
+}
+
+/// Whether each byte is a digit.
+fn are_digits(text: &[u8]) -> bool
+    ensures { result ≡ are_digits text.now }
+{
+    text.iter().all(|byte| byte.is_ascii_digit())
+}
+
+/// Whether the text is one to three digits.
+fn are_exponent_digits(text: &[u8]) -> bool
+    ensures { result ≡ are_exponent_digits text.now }
+{
+    are_digits(text) && !text.is_empty() && text.len() <= EXPONENT_DIGITS
+}
+
+/// The number that one to three digits write.
+fn size_of_exponent(digits: &[u8]) -> u64
+    requires digits { are_exponent_digits digits.now ≡ true }
+    ensures value { result ≡ digits_value 10 digits.now }
+    ensures below { result < 1000 }
+{
+    let mut size = 0;
+    for digit in digits {
+        size = size * 10 + (*digit - b'0') as u64;
+    }
+    size
+}
+
+/// The power of ten that the exponent says, and `None` where the text is not empty and no exponent.
+fn read_exponent(text: &[u8]) -> Option<Power>
+    ensures power { option_map {U = ℕ × ℕ} (λ p. (p.raised, p.lowered)) result
+        ≡ option_map (λ e. (raised e, lowered e)) (exponent_of text.now) }
+    ensures below { IfSome result (λ p. (p.raised < 1000) × (p.lowered < 1000)) }
+{
+    let [letter, behind @ ..] = text else {
+        return Some(ONE);
+    };
+    if *letter != b'e' && *letter != b'E' {
+        return None;
+    }
+    let (negative, digits) = split_sign(behind);
+    if !are_exponent_digits(digits) {
+        return None;
+    }
+    let size = size_of_exponent(digits);
+    if negative {
+        Some(Power {
+            raised: 0,
+            lowered: size,
+        })
+    } else {
+        Some(Power {
+            raised: size,
+            lowered: 0,
+        })
+    }
+}
+
+/// The number `size * 10^power`, with a sign, as a bound.
+fn bound_of(negative: bool, size: Significand, power: Power) -> Option<Dec>
+    requires power { (power.raised < 2 ^ 32) × (power.lowered < 2 ^ 32) }
+    ensures { result ≡ as_bound (scaled (signed negative (number_of size * 10 ^ power.raised)) power.lowered) }
+{
+    None
+}
