@@ -4,3 +4,5 @@ pub mod Rounding
 pub mod Upward
 pub mod Sums
 pub mod LiteralDigits
+pub mod LiteralBound
+pub mod LiteralText

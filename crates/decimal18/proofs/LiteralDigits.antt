@@ -102,3 +102,31 @@ pub long_on : (text : List ℕ) (n i v : ℕ) → are_digits text ≡ true → i
 long_on text n i v all within value long =
     subst IsLong (sym (value_from text n i all within) ∙ value)
     (long_after (drop (i + 1) text) (n * 10 + (get_or text i 0 - 48)) (digits_behind text (i + 1) all) long)
+
+-- ---- the digits in front of the point, then those behind it
+after-append : (xs ys : List ℕ) (n : ℕ) → digits_value_after 10 n (xs ++ ys) ≡ digits_value_after 10 (digits_value_after 10 n xs) ys
+after-append [] ys n = refl
+after-append (x ∷ xs) ys n = after-append xs ys (n * 10 + digit_value x)
+
+pub parts_value : (whole behind : List ℕ) (n m : ℕ) → digits_value 10 whole ≡ n → digits_value_after 10 n behind ≡ m
+    → digits_value 10 (whole ++ behind) ≡ m
+parts_value whole behind n m e h = after-append whole behind 0 ∙ ap (λ k. digits_value_after 10 k behind) e ∙ h
+
+pub long_whole : (whole behind : List ℕ) → are_digits behind ≡ true → IsLong (digits_value 10 whole) → IsLong (digits_value 10 (whole ++ behind))
+long_whole whole behind all long =
+    subst IsLong (sym (after-append whole behind 0)) (long_after behind (digits_value 10 whole) all long)
+
+pub long_behind : (whole behind : List ℕ) (n : ℕ) → digits_value 10 whole ≡ n → IsLong (digits_value_after 10 n behind)
+    → IsLong (digits_value 10 (whole ++ behind))
+long_behind whole behind n e long = subst IsLong (sym (parts_value whole behind n _ e refl)) long
+
+-- digits and zeros times one more power
+pub more_zeros : (n digits zeros raised : ℕ) → n ≡ digits * 10 ^ zeros → digits * 10 ^ (zeros + raised) ≡ n * 10 ^ raised
+more_zeros n digits zeros raised e = omega (arith, ap (λ t. t * 10 ^ raised) e, ap (λ t. digits * t) (pow-add 10 zeros raised))
+
+-- 18 zeros behind a digit
+pub many_zeros_behind : (d z : ℕ) → 0 < d → 18 ≤ z → 10 ^ 18 ≤ d * 10 ^ z
+many_zeros_behind d z some many =
+    let power : 10 ^ 18 ≤ 10 ^ z = pow-le-pow_right {n = 10} (lit≤ tt) many in
+    let times : 1 * 10 ^ z ≤ d * 10 ^ z = mul-le-mul_right (10 ^ z) (omega arith) in
+    omega arith

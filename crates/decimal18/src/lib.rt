@@ -11,6 +11,6 @@ mod tests;
 
 pub use byte_list::Bytes;
 pub use decimal::{Dec, add_down, add_up};
-pub use literal::NumFault;
+pub use literal::{NumFault, parse};
 pub use laws::{down_is_greatest, one_canonical_form, up_is_least, worked_roundings, worked_texts};
 pub use std::alloc::AllocError as OutOfMemory;

@@ -1,6 +1,6 @@
 //! Literals: texts that are numbers, read exactly.
 
-ghost use Rattle.std.specs.Prelude.{true, ◌≡◌, ℕ, ◌+◌, ◌*◌, ◌/◌, ◌%◌, ◌^◌, ◌<◌, ◌≤◌, ◌≢◌, Option, Some, None, IfSome, MatchOption, IsTrue, length, option_map};
+ghost use Rattle.std.specs.Prelude.{true, ◌≡◌, ℕ, ◌+◌, ◌*◌, ◌/◌, ◌%◌, ◌^◌, ◌<◌, ◌≤◌, ◌≢◌, Option, Some, None, IfSome, MatchOption, IsTrue, ◌++◌, length, option_map};
 ghost use Rattle.std.specs.List.{list_all, prefix_len};
 ghost use Rattle.std.specs.Char.{is_ascii_digit};
 ghost use Rattle.std.specs.Str.Parse.{digits_value, digits_value_after};
@@ -12,6 +12,15 @@ use crate::significand::Significand;
 
 /// The most digits of an exponent.
 const EXPONENT_DIGITS: usize = 3;
+
+/// The most digits of a bound.
+const DIGITS: u64 = 18;
+
+/// The least number of 19 digits.
+const LIMIT: u128 = 1_000_000_000_000_000_000;
+
+/// The most digits of a bound behind its point.
+const MOST_PLACES: u64 = 36;
 
 /// Why a text is not read as a bound.
 #[derive(Clone, Copy, Debug, PartialEq, Eq)]
@@ -146,10 +155,83 @@ fn read_exponent(text: &[u8]) -> Option<Power>
     }
 }
 
-/// The number `size * 10^power`, with a sign, as a bound.
-fn bound_of(negative: bool, size: Significand, power: Power) -> Option<Dec>
-    requires power { (power.raised < 2 ^ 32) × (power.lowered < 2 ^ 32) }
-    ensures { result ≡ as_bound (scaled (signed negative (number_of size * 10 ^ power.raised)) power.lowered) }
+/// `digits * 10^zeros`, and `None` where that has more than 18 digits.
+fn with_zeros(digits: u64, zeros: u64) -> Option<u64>
+    requires some { 0 < digits }
+    requires few { digits < 10 ^ 18 }
+    ensures value { IfSome result (λ n. (n ≡ digits * 10 ^ zeros) × (n < 10 ^ 18)) }
+    ensures none { result ≡ None → 10 ^ 18 ≤ digits * 10 ^ zeros }
 {
-    None
+    if zeros >= DIGITS {
+        return None;
+    }
+    let size = digits as u128 * 10u128.pow(zeros as u32);
+    if size < LIMIT { Some(size as u64) } else { None }
+}
+
+/// The number `digits / 10^places` with the sign, as a bound.
+fn signed_bound(negative: bool, digits: u64, places: u64) -> Option<Dec>
+    requires few { digits < 10 ^ 18 }
+    requires most { places ≤ 36 }
+    ensures { result ≡ as_bound (scaled (signed negative digits) places) }
+{
+    let size = digits as i64;
+    Dec::new(if negative { -size } else { size }, places as u8)
+}
+
+/// The number `digits * 10^raised / 10^lowered` with the sign, as a bound.
+fn scaled_bound(negative: bool, digits: u64, raised: u64, lowered: u64) -> Option<Dec>
+    requires few { digits < 10 ^ 18 }
+    requires ended { digits % 10 ≡ 0 → digits ≡ 0 }
+    ensures { result ≡ as_bound (scaled (signed negative (digits * 10 ^ raised)) lowered) }
+{
+    if digits == 0 {
+        return signed_bound(negative, 0, 0);
+    }
+    if raised >= lowered {
+        return signed_bound(negative, with_zeros(digits, raised - lowered)?, 0);
+    }
+    if lowered - raised > MOST_PLACES {
+        return None;
+    }
+    signed_bound(negative, digits, lowered - raised)
+}
+
+/// The number that all the digits write, times the power and divided by `10^(number of digits
+/// behind the point)`, with the sign, as a bound.
+fn exact_bound(negative: bool, whole: &[u8], behind_point: &[u8], power: Power) -> Option<Dec>
+    requires whole { are_digits whole.now ≡ true }
+    requires behind_point { are_digits behind_point.now ≡ true }
+    requires room { length whole.now + length behind_point.now < 2 ^ 63 }
+    requires power { (power.raised < 1000) × (power.lowered < 1000) }
+    ensures { result ≡ as_bound (scaled
+        (signed negative (digits_value 10 (whole.now ++ behind_point.now) * 10 ^ power.raised))
+        (length behind_point.now + power.lowered)) }
+{
+    let size = Significand::ZERO.append(whole)?.append(behind_point)?;
+    let raised = size.zeros + power.raised;
+    let lowered = behind_point.len() as u64 + power.lowered;
+    scaled_bound(negative, size.digits, raised, lowered)
+}
+
+/// The bound that the text is: an optional sign, one or more digits, optionally a point and one or
+/// more digits, and optionally `e` or `E`, a sign or none, and one to three digits.
+///
+/// # Errors
+///
+/// [`NumFault::NotNumber`] where the text is no literal, and [`NumFault::NumberRange`] where it is
+/// one whose value is no bound.
+pub fn parse(text: &[u8]) -> Result<Dec, NumFault>
+    ensures exact { result ≡ parsed text.now }
+{
+    let (negative, unsigned) = split_sign(text);
+    let (whole, behind) = split_digits(unsigned);
+    let (behind_point, rest) = split_point(behind);
+    if whole.is_empty() {
+        return Err(NumFault::NotNumber);
+    }
+    let Some(power) = read_exponent(rest) else {
+        return Err(NumFault::NotNumber);
+    };
+    exact_bound(negative, whole, behind_point, power).ok_or(NumFault::NumberRange)
 }
