@@ -6,3 +6,5 @@ pub mod Sums
 pub mod LiteralDigits
 pub mod LiteralBound
 pub mod LiteralText
+pub mod LiteralRead
+pub mod TextAgain

@@ -44,7 +44,7 @@ many_zeros d z e some many =
     let times : 1 * 10 ^ z ≤ d * 10 ^ z = mul-le-mul_right (10 ^ z) (omega arith) in
     omega arith
 
-numerals : IsNumeralModel (λ ds. are_digits ds ≡ true) (digits_value 10)
+pub numerals : IsNumeralModel (λ ds. are_digits ds ≡ true) (digits_value 10)
 numerals = numerals_by_value _ (search rules)
 
 -- a byte of digits is a digit, and its value
@@ -104,7 +104,7 @@ long_on text n i v all within value long =
     (long_after (drop (i + 1) text) (n * 10 + (get_or text i 0 - 48)) (digits_behind text (i + 1) all) long)
 
 -- ---- the digits in front of the point, then those behind it
-after-append : (xs ys : List ℕ) (n : ℕ) → digits_value_after 10 n (xs ++ ys) ≡ digits_value_after 10 (digits_value_after 10 n xs) ys
+pub after-append : (xs ys : List ℕ) (n : ℕ) → digits_value_after 10 n (xs ++ ys) ≡ digits_value_after 10 (digits_value_after 10 n xs) ys
 after-append [] ys n = refl
 after-append (x ∷ xs) ys n = after-append xs ys (n * 10 + digit_value x)
 

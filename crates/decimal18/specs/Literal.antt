@@ -4,7 +4,7 @@ use Rattle.std.specs.List.{list_all, prefix_len}
 use Rattle.std.specs.Char.{is_ascii_digit}
 use Rattle.std.specs.Str.Parse.{digits_value}
 use Rattle.exact_fraction.specs.Number.{ℚ}
-use Rattle.decimal18.specs.Bound.{Bound, scaled, value_of, canonical}
+use Rattle.decimal18.specs.Bound.{Bound, scaled, value_of, canonical, IsBound}
 use Rattle.decimal18.specs.declared.literal.NumFault.{NumFault}
 use Rattle.decimal18.specs.declared.literal.NumFault.TheVariants.{NotNumber, NumberRange}
 
@@ -99,6 +99,12 @@ pub record IsLiteral (text : List ℕ) (x : ℚ) : Type 0 where
   pub literal : Literal
   pub spelt : Spells text literal
   pub exact : value_of (exact_of literal) ≡ x
+
+-- the text is a literal whose value no bound has
+pub record IsOutOfRange (text : List ℕ) : Type 0 where
+  pub value : ℚ
+  pub literal : IsLiteral text value
+  pub no_bound : (b : Bound) → IsBound b → value_of b ≢ value
 
 -- ---- the literal that a text is, if any
 abbrev pub front_digits : List ℕ → List ℕ

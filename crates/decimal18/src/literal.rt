@@ -1,11 +1,13 @@
 //! Literals: texts that are numbers, read exactly.
 
-ghost use Rattle.std.specs.Prelude.{true, ◌≡◌, ℕ, ◌+◌, ◌*◌, ◌/◌, ◌%◌, ◌^◌, ◌<◌, ◌≤◌, ◌≢◌, Option, Some, None, IfSome, MatchOption, IsTrue, ◌++◌, length, option_map};
+ghost use Rattle.std.specs.Prelude.{true, ◌≡◌, ℕ, ◌+◌, ◌*◌, ◌/◌, ◌%◌, ◌^◌, ◌<◌, ◌≤◌, ◌≢◌, ◌↔◌, Option, None, IfSome, IfOk, Err, ◌++◌, length, option_map};
 ghost use Rattle.std.specs.List.{list_all, prefix_len};
 ghost use Rattle.std.specs.Char.{is_ascii_digit};
 ghost use Rattle.std.specs.Str.Parse.{digits_value, digits_value_after};
+ghost use Rattle.exact_fraction.specs.Number.{ℚ};
 ghost use Rattle.decimal18.specs.Bound.{scaled, value_of};
-ghost use Rattle.decimal18.specs.Literal.{is_minus, signed, are_digits, are_exponent_digits, raised, lowered, front_digits, behind_digits, front_sign, behind_sign, front_point, behind_front_point, exponent_of, as_bound, parsed};
+ghost use Rattle.decimal18.specs.declared.literal.NumFault.TheVariants.{NotNumber, NumberRange};
+ghost use Rattle.decimal18.specs.Literal.{is_minus, signed, are_digits, are_exponent_digits, raised, lowered, front_digits, behind_digits, front_sign, behind_sign, front_point, behind_front_point, exponent_of, as_bound, unsigned_literal, read, parsed, Sign, IsLiteral, IsOutOfRange};
 
 use crate::Dec;
 use crate::significand::Significand;
@@ -214,6 +216,21 @@ fn exact_bound(negative: bool, whole: &[u8], behind_point: &[u8], power: Power) 
     scaled_bound(negative, size.digits, raised, lowered)
 }
 
+/// The bound that the text without its sign is.
+fn parse_unsigned(negative: bool, text: &[u8]) -> Result<Dec, NumFault>
+    ensures { (sign : Sign) → is_minus sign ≡ negative → result ≡ read (unsigned_literal sign text.now) }
+{
+    let (whole, behind) = split_digits(text);
+    let (behind_point, rest) = split_point(behind);
+    if whole.is_empty() {
+        return Err(NumFault::NotNumber);
+    }
+    let Some(power) = read_exponent(rest) else {
+        return Err(NumFault::NotNumber);
+    };
+    exact_bound(negative, whole, behind_point, power).ok_or(NumFault::NumberRange)
+}
+
 /// The bound that the text is: an optional sign, one or more digits, optionally a point and one or
 /// more digits, and optionally `e` or `E`, a sign or none, and one to three digits.
 ///
@@ -223,15 +240,10 @@ fn exact_bound(negative: bool, whole: &[u8], behind_point: &[u8], power: Power) 
 /// one whose value is no bound.
 pub fn parse(text: &[u8]) -> Result<Dec, NumFault>
     ensures exact { result ≡ parsed text.now }
+    ensures value { IfOk result (λ b. IsLiteral text.now (value_of b)) }
+    ensures not_number { (result ≡ Err NotNumber) ↔ ((x : ℚ) → IsLiteral text.now x → ⊥) }
+    ensures number_range { (result ≡ Err NumberRange) ↔ IsOutOfRange text.now }
 {
     let (negative, unsigned) = split_sign(text);
-    let (whole, behind) = split_digits(unsigned);
-    let (behind_point, rest) = split_point(behind);
-    if whole.is_empty() {
-        return Err(NumFault::NotNumber);
-    }
-    let Some(power) = read_exponent(rest) else {
-        return Err(NumFault::NotNumber);
-    };
-    exact_bound(negative, whole, behind_point, power).ok_or(NumFault::NumberRange)
+    parse_unsigned(negative, unsigned)
 }
