@@ -3,3 +3,9 @@ pub mod Canonical
 pub mod Rounding
 pub mod Upward
 pub mod Sums
+pub mod Answered
+pub mod Tens
+pub mod Zeros
+pub mod Printing
+pub mod CutOff
+pub mod Counting

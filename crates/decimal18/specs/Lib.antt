@@ -1,3 +1,4 @@
 pub mod Bound
 pub mod Down
+pub mod Digits
 pub mod Text

@@ -1,13 +1,22 @@
 //! Decimal numbers of at most 18 digits, each sum of which is rounded down or up.
 #![tactic(auto)]
 
+mod arithmetic;
 mod byte_list;
 mod decimal;
+mod direction;
 mod laws;
+mod magnitude;
+mod powers;
+mod print;
+mod round;
+mod sign;
+mod sum;
 #[cfg(test)]
 mod tests;
 
+pub use arithmetic::{add_down, add_up};
 pub use byte_list::Bytes;
-pub use decimal::{Dec, add_down, add_up};
+pub use decimal::Dec;
 pub use laws::{down_is_greatest, one_canonical_form, up_is_least, worked_roundings, worked_texts};
 pub use std::alloc::AllocError as OutOfMemory;
