@@ -8,3 +8,9 @@ pub mod LiteralBound
 pub mod LiteralText
 pub mod LiteralRead
 pub mod TextAgain
+pub mod Answered
+pub mod Tens
+pub mod Zeros
+pub mod Printing
+pub mod CutOff
+pub mod Counting

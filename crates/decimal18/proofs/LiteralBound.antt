@@ -11,7 +11,8 @@ use std.Quotient.{eq/}
 use Rattle.exact_fraction.specs.Whole.{diff_of, diff_same, push}
 use Rattle.exact_fraction.specs.NumberLaws.{≈-of_≡}
 use Rattle.decimal18.specs.Bound.{Bound, scaled, fraction_of, value_of, canonical, IsBound, IsCanonical}
-use Rattle.decimal18.specs.Literal.{signed, is_bound, as_bound}
+use Rattle.decimal18.specs.Digits.{signed}
+use Rattle.decimal18.specs.Literal.{is_bound, as_bound}
 use Rattle.decimal18.specs.Significand.{IsLong}
 use Rattle.decimal18.proofs.Canonical.{IsReduced-canonical, one_canonical}
 

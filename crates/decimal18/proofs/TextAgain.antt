@@ -14,7 +14,8 @@ use Rattle.std.specs.Int.{IsInRange}
 use Rattle.std.specs.Str.Parse.{digits_value, digits_value_after}
 use Rattle.decimal18.specs.Bound.{Bound, scaled, value_of, canonical, IsBound, IsCanonical}
 use Rattle.decimal18.specs.Text.{last_digits, sign_of, behind_point, text_of}
-use Rattle.decimal18.specs.Literal.{Sign, Unsigned, Minus, Literal, sign_text, point_text, text_of_literal, are_digits, is_minus, signed, Spells, exact_of, as_bound, in_range, read, literal_of, parsed}
+use Rattle.decimal18.specs.Digits.{signed}
+use Rattle.decimal18.specs.Literal.{Sign, Unsigned, Minus, Literal, sign_text, point_text, text_of_literal, are_digits, is_minus, Spells, exact_of, as_bound, in_range, read, literal_of, parsed}
 use Rattle.decimal18.proofs.Canonical.{IsReduced-canonical, one_canonical}
 use Rattle.decimal18.proofs.LiteralBound.{in_form}
 use Rattle.decimal18.proofs.LiteralDigits.{numerals, both_true, digit_in, after-append}

@@ -4,6 +4,7 @@ use Rattle.std.specs.List.{list_all, prefix_len}
 use Rattle.std.specs.Char.{is_ascii_digit}
 use Rattle.std.specs.Str.Parse.{digits_value}
 use Rattle.exact_fraction.specs.Number.{ℚ}
+use Rattle.decimal18.specs.Digits.{signed}
 use Rattle.decimal18.specs.Bound.{Bound, scaled, value_of, canonical, IsBound}
 use Rattle.decimal18.specs.declared.literal.NumFault.{NumFault}
 use Rattle.decimal18.specs.declared.literal.NumFault.TheVariants.{NotNumber, NumberRange}
@@ -72,11 +73,6 @@ abbrev pub is_minus : Sign → Bool
 is_minus Unsigned = false
 is_minus Plus = false
 is_minus Minus = true
-
--- n or -n
-abbrev pub signed : Bool → ℕ → ℤ
-signed false n = pos n
-signed true n = neg_ℤ (pos n)
 
 -- the exponent where it is positive, and 0 elsewhere
 abbrev pub raised : Option Exponent → ℕ

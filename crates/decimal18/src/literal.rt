@@ -7,9 +7,11 @@ ghost use Rattle.std.specs.Str.Parse.{digits_value, digits_value_after};
 ghost use Rattle.exact_fraction.specs.Number.{ℚ};
 ghost use Rattle.decimal18.specs.Bound.{scaled, value_of};
 ghost use Rattle.decimal18.specs.declared.literal.NumFault.TheVariants.{NotNumber, NumberRange};
-ghost use Rattle.decimal18.specs.Literal.{is_minus, signed, are_digits, are_exponent_digits, raised, lowered, front_digits, behind_digits, front_sign, behind_sign, front_point, behind_front_point, exponent_of, as_bound, unsigned_literal, read, parsed, Sign, IsLiteral, IsOutOfRange};
+ghost use Rattle.decimal18.specs.Digits.{signed};
+ghost use Rattle.decimal18.specs.Literal.{is_minus, are_digits, are_exponent_digits, raised, lowered, front_digits, behind_digits, front_sign, behind_sign, front_point, behind_front_point, exponent_of, as_bound, unsigned_literal, read, parsed, Sign, IsLiteral, IsOutOfRange};
 
 use crate::Dec;
+use crate::magnitude::Magnitude;
 use crate::significand::Significand;
 
 /// The most digits of an exponent.
@@ -172,13 +174,10 @@ fn with_zeros(digits: u64, zeros: u64) -> Option<u64>
 }
 
 /// The number `digits / 10^places` with the sign, as a bound.
-fn signed_bound(negative: bool, digits: u64, places: u64) -> Option<Dec>
-    requires few { digits < 10 ^ 18 }
-    requires most { places ≤ 36 }
+fn signed_bound(negative: bool, digits: u64, places: u32) -> Option<Dec>
     ensures { result ≡ as_bound (scaled (signed negative digits) places) }
 {
-    let size = digits as i64;
-    Dec::new(if negative { -size } else { size }, places as u8)
+    Dec::from_magnitude(negative, Magnitude { digits, places })
 }
 
 /// The number `digits * 10^raised / 10^lowered` with the sign, as a bound.
@@ -196,7 +195,7 @@ fn scaled_bound(negative: bool, digits: u64, raised: u64, lowered: u64) -> Optio
     if lowered - raised > MOST_PLACES {
         return None;
     }
-    signed_bound(negative, digits, lowered - raised)
+    signed_bound(negative, digits, (lowered - raised) as u32)
 }
 
 /// The number that all the digits write, times the power and divided by `10^(number of digits

@@ -1,6 +1,7 @@
 use Rattle.std.proofs.Common.{rules, ◌≡◌, ◌+◌, None, length, sym, ap, ◌∙◌}
 use Rattle.decimal18.specs.Bound.{scaled}
-use Rattle.decimal18.specs.Literal.{signed, as_bound}
+use Rattle.decimal18.specs.Digits.{signed}
+use Rattle.decimal18.specs.Literal.{as_bound}
 use Rattle.decimal18.specs.Significand.{number_of}
 use Rattle.decimal18.proofs.LiteralBound.{long_is_none}
 use Rattle.decimal18.proofs.LiteralDigits.{parts_value, long_whole, long_behind, more_zeros}
