@@ -1,20 +1,21 @@
 -- When a decimal number is a bound, by its digits and its power of ten.
-use Rattle.std.specs.Prelude.{◌≡◌, ◌≢◌, ℕ, zero, suc, ◌+◌, ◌-◌, ◌*◌, ◌/◌, ◌%◌, ◌^◌, ◌<◌, ◌≤◌, ◌==◌, ◌&&◌, ◌⊎◌, ◌↔◌, Bool, true, false, cond, nat_lt, nat_le, ℤ, pos, negsuc, ◌*ℤ◌, neg_ℤ, unsigned_abs, Option, None, Some, IsSome, IfSome, refl}
+use Rattle.std.specs.Prelude.{◌≡◌, ◌≢◌, ℕ, zero, suc, ◌+◌, ◌-◌, ◌*◌, ◌%◌, ◌^◌, ◌<◌, ◌≤◌, ◌⊎◌, ◌↔◌, Bool, true, false, cond, ℤ, pos, ◌*ℤ◌, unsigned_abs, Option, None, Some, IsSome, IfSome, refl}
 use Rattle.std.proofs.Common.{sym, ap, subst, ◌∙◌, arith, rules, inl, inr}
 use Rattle.std.proofs.Math.Dec.{lit≤}
-use Rattle.std.proofs.Math.Nat.{pow-le-pow_right, mul-le-mul_left, mul-le-mul_right, le-mul_of_pos_right, one-le-pow, pow-suc, eq_of_mul-eq-mul_right}
+use Rattle.std.proofs.Math.Nat.{le-mul_of_pos_right, one-le-pow, pow-suc, eq_of_mul-eq-mul_right}
 use Rattle.std.proofs.Math.Pow.{pow-add}
-use Rattle.std.proofs.lemmas.Bool.{cases_lt, cases_Bool}
+use Rattle.std.proofs.lemmas.Bool.{cases_lt}
 use Rattle.std.proofs.lemmas.Bool.Decides.{nat_tests}
-use Rattle.std.proofs.lemmas.Int.{unsigned_abs-mul, ints}
+use Rattle.std.proofs.lemmas.Int.{unsigned_abs-mul}
 use std.Quotient.{eq/}
-use Rattle.exact_fraction.specs.Whole.{diff_of, diff_same, push}
+use Rattle.exact_fraction.specs.Whole.{diff_same, push}
 use Rattle.exact_fraction.specs.NumberLaws.{≈-of_≡}
-use Rattle.decimal18.specs.Bound.{Bound, scaled, fraction_of, value_of, canonical, IsBound, IsCanonical}
+use Rattle.decimal18.specs.Bound.{Bound, scaled, fraction_of, value_of, canonical, IsBound}
 use Rattle.decimal18.specs.Digits.{signed}
 use Rattle.decimal18.specs.Literal.{is_bound, as_bound}
 use Rattle.decimal18.specs.Significand.{IsLong}
 use Rattle.decimal18.proofs.Canonical.{IsReduced-canonical, one_canonical}
+use Rattle.decimal18.proofs.LiteralDigits.{no_zero_last}
 
 -- ---- values
 signed_times : (negative : Bool) (m n s t : ℕ) → m * t ≡ n * s → (signed negative m *ℤ pos t) ≡ (signed negative n *ℤ pos s)
@@ -80,14 +81,14 @@ power_positive p = one-le-pow p 10 (lit≤ tt)
 cancel_left : (x n p r q : ℕ) → p ≤ r + q → x * 10 ^ p ≡ n * 10 ^ r * 10 ^ q → x ≡ n * 10 ^ (r + q - p)
 cancel_left x n p r q h e =
     let total : 10 ^ r * 10 ^ q ≡ 10 ^ (r + q - p) * 10 ^ p =
-        sym (pow-add 10 r q) ∙ ap (λ k. 10 ^ k) (omega arith) ∙ pow-add 10 (r + q - p) p in
+    sym (pow-add 10 r q) ∙ ap (λ k. 10 ^ k) (omega arith) ∙ pow-add 10 (r + q - p) p in
     eq_of_mul-eq-mul_right (10 ^ p) (power_positive p) x (n * 10 ^ (r + q - p)) (omega (arith, e, ap (λ t. n * t) total))
 
 -- more powers on the left
 cancel_right : (x n p r q : ℕ) → r + q ≤ p → x * 10 ^ p ≡ n * 10 ^ r * 10 ^ q → n ≡ x * 10 ^ (p - (r + q))
 cancel_right x n p r q h e =
     let total : 10 ^ p ≡ 10 ^ (p - (r + q)) * (10 ^ r * 10 ^ q) =
-        ap (λ k. 10 ^ k) (omega arith) ∙ pow-add 10 (p - (r + q)) (r + q) ∙ ap (λ t. 10 ^ (p - (r + q)) * t) (pow-add 10 r q) in
+    ap (λ k. 10 ^ k) (omega arith) ∙ pow-add 10 (p - (r + q)) (r + q) ∙ ap (λ t. 10 ^ (p - (r + q)) * t) (pow-add 10 r q) in
     let both : 10 ^ r * 10 ^ q ≡ 10 ^ (r + q) = sym (pow-add 10 r q) in
     eq_of_mul-eq-mul_right (10 ^ (r + q)) (power_positive (r + q)) n (x * 10 ^ (p - (r + q)))
     (omega (arith, e, ap (λ t. x * t) total, ap (λ t. n * t) both, ap (λ t. x * 10 ^ (p - (r + q)) * t) both))
@@ -102,6 +103,7 @@ long_is_none negative n raised lowered long = no_bound _ _ none where
   none b h e = by (cases_lt (raised + b.places) lowered) where
     size : unsigned_abs b.coefficient * 10 ^ lowered ≡ n * 10 ^ raised * 10 ^ b.places
     size = sizes b negative (n * 10 ^ raised) lowered e
+
     by : (raised + b.places < lowered) ⊎ (lowered ≤ raised + b.places) → ⊥
     by (inl k) =
         let d = lowered - (raised + b.places) in
@@ -118,7 +120,7 @@ wide_is_none negative n raised lowered more many = no_bound _ _ none where
   none b h e =
       let size = cancel_left (unsigned_abs b.coefficient) n lowered raised b.places (omega arith) (sizes b negative (n * 10 ^ raised) lowered e) in
       let split : 10 ^ (raised + b.places - lowered) ≡ 10 ^ (raised - lowered) * 10 ^ b.places =
-          ap (λ k. 10 ^ k) (omega arith) ∙ pow-add 10 (raised - lowered) b.places in
+      ap (λ k. 10 ^ k) (omega arith) ∙ pow-add 10 (raised - lowered) b.places in
       let m = n * 10 ^ (raised - lowered) in
       absurd (omega (arith, h.digits, size, ap (λ t. n * t) split, at_least m b.places))
 
@@ -132,7 +134,7 @@ deep_is_none negative n raised lowered last deep = no_bound _ _ none where
       let size = cancel_right x n lowered raised b.places (omega (arith, h.most)) (sizes b negative (n * 10 ^ raised) lowered e) in
       let k = lowered - (raised + b.places) - 1 in
       let split : 10 ^ (lowered - (raised + b.places)) ≡ 10 ^ k * 10 =
-          ap (λ j. 10 ^ j) (omega (arith, h.most)) ∙ pow-suc 10 k in
+      ap (λ j. 10 ^ j) (omega (arith, h.most)) ∙ pow-suc 10 k in
       last (omega (arith, size, ap (λ t. x * t) split))
 
 -- digits that are put at the places where the power has them
@@ -182,3 +184,52 @@ new_is c p None some same = by (is_bound (canonical c p)) refl where
   by true e =
       let h : IsSome {T = Bound} None = some.1 (record { digits = grind (arith, nat_tests); most = grind (arith, nat_tests) }) in
       absurd (cc)
+
+-- ---- exactly when a number is a bound
+none_is_not_some : (o : Option Bound) → o ≡ None → IsSome o → ⊥
+none_is_not_some o e h =
+    let some : IsSome {T = Bound} None = subst IsSome e h in
+    absurd (cc)
+
+pub is_some_bound : (c : ℤ) (p : ℕ) → IsBound (scaled c p) → IsSome (as_bound (scaled c p))
+is_some_bound c p h = subst IsSome (sym (in_form c p h)) refl
+
+-- digits that do not end in 0, times a power of ten, by their number and that of the places
+pub tight : (n raised lowered : ℕ) → n % 10 ≢ 0
+    → IsSome (as_bound (scaled (pos (n * 10 ^ raised)) lowered)) ↔ ((n * 10 ^ (raised - lowered) < 10 ^ 18) × (lowered ≤ raised + 36))
+tight n raised lowered last = (to, from) where
+  none : as_bound (scaled (signed false (n * 10 ^ raised)) lowered) ≡ None → IsSome (as_bound (scaled (pos (n * 10 ^ raised)) lowered)) → ⊥
+  none e = none_is_not_some (as_bound (scaled (pos (n * 10 ^ raised)) lowered)) e
+
+  few : IsSome (as_bound (scaled (pos (n * 10 ^ raised)) lowered)) → n * 10 ^ (raised - lowered) < 10 ^ 18
+  few h = by (cases_lt (n * 10 ^ (raised - lowered)) (10 ^ 18)) (cases_lt raised lowered) where
+    by : (n * 10 ^ (raised - lowered) < 10 ^ 18) ⊎ (10 ^ 18 ≤ n * 10 ^ (raised - lowered)) → (raised < lowered) ⊎ (lowered ≤ raised) → n * 10 ^ (raised - lowered) < 10 ^ 18
+    by (inl k) g = k
+    by (inr k) (inl g) =
+        let no_zeros : raised - lowered ≡ 0 = omega arith in
+        let one : 10 ^ (raised - lowered) ≡ 1 = ap (λ j. 10 ^ j) no_zeros in
+        let many : 10 ^ 18 ≤ n = omega (arith, k, ap (λ t. n * t) one) in
+        absurd (none (long_is_none false n raised lowered (no_zero_last n last many)) h)
+    by (inr k) (inr g) = absurd (none (wide_is_none false n raised lowered g k) h)
+
+  most : IsSome (as_bound (scaled (pos (n * 10 ^ raised)) lowered)) → lowered ≤ raised + 36
+  most h = by (cases_lt (raised + 36) lowered) where
+    by : (raised + 36 < lowered) ⊎ (lowered ≤ raised + 36) → lowered ≤ raised + 36
+    by (inl k) = absurd (none (deep_is_none false n raised lowered last k) h)
+    by (inr k) = k
+
+  to : IsSome (as_bound (scaled (pos (n * 10 ^ raised)) lowered)) → (n * 10 ^ (raised - lowered) < 10 ^ 18) × (lowered ≤ raised + 36)
+  to h = (few h, most h)
+
+  from : (n * 10 ^ (raised - lowered) < 10 ^ 18) × (lowered ≤ raised + 36) → IsSome (as_bound (scaled (pos (n * 10 ^ raised)) lowered))
+  from h = by (cases_lt raised lowered) where
+    by : (raised < lowered) ⊎ (lowered ≤ raised) → IsSome (as_bound (scaled (pos (n * 10 ^ raised)) lowered))
+    by (inl k) =
+        let no_zeros : raised - lowered ≡ 0 = omega arith in
+        let one : 10 ^ (raised - lowered) ≡ 1 = ap (λ j. 10 ^ j) no_zeros in
+        let small : n < 10 ^ 18 = omega (arith, h.0, ap (λ t. n * t) one) in
+        subst IsSome (same_bound (pos n) (pos (n * 10 ^ raised)) (lowered - raised) lowered (deep_value false n raised lowered (omega arith)))
+        (is_some_bound (pos n) (lowered - raised) (record { digits = small; most = omega (arith, h.1) }))
+    by (inr k) =
+        subst IsSome (same_bound (pos (n * 10 ^ (raised - lowered))) (pos (n * 10 ^ raised)) 0 lowered (wide_value false n raised lowered k))
+        (is_some_bound (pos (n * 10 ^ (raised - lowered))) 0 (record { digits = h.0; most = omega arith }))

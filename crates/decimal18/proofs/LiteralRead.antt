@@ -1,9 +1,9 @@
 -- What the answers of reading say.
 use Rattle.std.specs.Prelude.{◌≡◌, ◌≢◌, ◌↔◌, ℕ, Bool, true, false, cond, List, Option, None, Some, Result, Ok, Err, IfOk, refl}
-use Rattle.std.proofs.Common.{sym, ap, subst, ◌∙◌}
+use Rattle.std.proofs.Common.{sym, ap, ◌∙◌}
 use Rattle.exact_fraction.specs.Number.{ℚ}
-use Rattle.decimal18.specs.Bound.{Bound, scaled, value_of, canonical, IsBound}
-use Rattle.decimal18.specs.Literal.{Literal, IsLiteral, IsOutOfRange, Spells, exact_of, is_bound, as_bound, in_range, read, literal_of, parsed}
+use Rattle.decimal18.specs.Bound.{Bound, value_of, canonical, IsBound}
+use Rattle.decimal18.specs.Literal.{Literal, IsLiteral, IsOutOfRange, exact_of, is_bound, as_bound, in_range, read, literal_of, parsed}
 use Rattle.decimal18.specs.declared.literal.NumFault.{NumFault}
 use Rattle.decimal18.specs.declared.literal.NumFault.TheVariants.{NotNumber, NumberRange}
 use Rattle.decimal18.proofs.Canonical.{IsReduced-canonical}
@@ -15,6 +15,7 @@ bound_value : (b c : Bound) → as_bound b ≡ Some c → value_of b ≡ value_o
 bound_value b c h = by (is_bound (canonical b.coefficient b.places)) h where
   form : Bound
   form = canonical b.coefficient b.places
+
   by : (t : Bool) → cond t (Some form) None ≡ Some c → value_of b ≡ value_of c
   by true e =
       let same : form ≡ c = cc in
@@ -42,9 +43,11 @@ is_number (Some c) h = absurd (cc)
 is_number None h = absurd (cc)
 
 spelt_as : (text : List ℕ) (x : ℚ) (h : IsLiteral text x) → parsed text ≡ in_range (as_bound (exact_of h.literal))
+unfolding parsed
 spelt_as text x h = ap read (spelt_read text h.literal h.spelt)
 
 pub ok_value : (text : List ℕ) (b : Bound) → parsed text ≡ Ok b → IsLiteral text (value_of b)
+unfolding parsed
 ok_value text b h = by (literal_of text) refl h where
   by : (o : Option Literal) → literal_of text ≡ o → read o ≡ Ok b → IsLiteral text (value_of b)
   by None e k = absurd (cc)
@@ -55,12 +58,14 @@ if_value text (Ok b) e = ok_value text b (sym e)
 if_value text (Err f) e = tt
 
 pub not_number : (text : List ℕ) → (parsed text ≡ Err NotNumber) ↔ ((x : ℚ) → IsLiteral text x → ⊥)
+unfolding parsed
 not_number text = (λ e x h. is_number (as_bound (exact_of h.literal)) (sym (spelt_as text x h) ∙ e), λ none. by none (literal_of text) refl) where
   by : ((x : ℚ) → IsLiteral text x → ⊥) → (o : Option Literal) → literal_of text ≡ o → read o ≡ Err NotNumber
   by none None e = refl
   by none (Some l) e = absurd (none (value_of (exact_of l)) (record { literal = l; spelt = read_spelt text l e; exact = refl }))
 
 pub number_range : (text : List ℕ) → (parsed text ≡ Err NumberRange) ↔ IsOutOfRange text
+unfolding parsed
 number_range text = (λ e. by (literal_of text) refl e, back) where
   by : (o : Option Literal) → literal_of text ≡ o → read o ≡ Err NumberRange → IsOutOfRange text
   by None e k = absurd (cc)
@@ -69,6 +74,7 @@ number_range text = (λ e. by (literal_of text) refl e, back) where
     literal = record { literal = l; spelt = read_spelt text l e; exact = refl };
     no_bound = λ b h. no_bound_value (exact_of l) b (range_of (as_bound (exact_of l)) k) h;
   }
+
   back : IsOutOfRange text → parsed text ≡ Err NumberRange
   back h =
       let l = h.literal.literal in

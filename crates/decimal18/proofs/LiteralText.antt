@@ -1,15 +1,15 @@
 -- A text is read as a literal exactly where it is that literal's text.
-use Rattle.std.specs.Prelude.{◌≡◌, ◌≢◌, ℕ, zero, suc, ◌+◌, ◌<◌, ◌≤◌, ◌==◌, ◌&&◌, ◌||◌, Bool, true, false, cond, nat_lt, nat_le, List, [], ◌∷◌, ◌++◌, length, take, drop, codes, Option, None, Some, option_map, refl}
-use Rattle.std.proofs.Common.{sym, ap, subst, ◌∙◌, arith, rules, append_assoc, take-append-drop}
+use Rattle.std.specs.Prelude.{◌≡◌, ℕ, zero, suc, ◌+◌, ◌<◌, ◌≤◌, ◌==◌, ◌&&◌, Bool, true, false, cond, nat_lt, nat_le, List, [], ◌∷◌, ◌++◌, length, take, drop, Option, None, Some, option_map, refl}
+use Rattle.std.proofs.Common.{sym, ap, subst, ◌∙◌, arith, append_assoc, take-append-drop}
 use Rattle.std.proofs.Math.Seq.{take-append_seam, drop-append_seam}
 use mathlib.Core.List.{append-nil}
 use Rattle.std.proofs.lemmas.Bool.Decides.{nat_tests}
 use Rattle.std.proofs.lemmas.List.Sums.{prefix_len-le-length}
 use Rattle.std.proofs.lemmas.List.Folds.{length-prefix_len}
-use Rattle.std.specs.List.{list_all, prefix_len}
+use Rattle.std.specs.List.{prefix_len}
 use Rattle.std.specs.Char.{is_ascii_digit}
 use Rattle.decimal18.specs.Literal.{Sign, Unsigned, Plus, Minus, Exponent, Literal, sign_text, point_text, exponent_text, text_of_literal, are_digits, is_exponent_letter, are_exponent_digits, is_exponent, Spells, front_digits, behind_digits, front_sign, behind_sign, front_point, behind_front_point, exponent_of, unsigned_literal, literal_of}
-use Rattle.decimal18.proofs.LiteralDigits.{cut_true, both_true, front_is_digits}
+use Rattle.decimal18.proofs.LiteralDigits.{cut_true, front_is_digits}
 
 -- ---- what is read is the text
 sign_parts : (text : List ℕ) → sign_text (front_sign text) ++ behind_sign text ≡ text
@@ -59,6 +59,7 @@ exponent_parts [] e h =
 exponent_parts (c ∷ cs) e h = by (is_exponent_letter c && are_exponent_digits (behind_sign cs)) refl h where
   found : Exponent
   found = record { letter = c; sign = front_sign cs; digits = behind_sign cs }
+
   by : (t : Bool) → (is_exponent_letter c && are_exponent_digits (behind_sign cs)) ≡ t → cond t (Some (Some found)) None ≡ Some e → IsExponentOf (c ∷ cs) e
   by true k g =
       let same : Some found ≡ e = cc in
@@ -84,30 +85,32 @@ positive_is n h = grind (arith, nat_tests)
 unsigned_spells : (sign : Sign) (text : List ℕ) (l : Literal) → unsigned_literal sign text ≡ Some l → Spells (sign_text sign ++ text) l
 unsigned_spells sign text l h =
     by (nat_lt 0 (prefix_len is_ascii_digit text)) refl (exponent_of (behind_front_point (behind_digits text))) refl h where
-  made : Option Exponent → Literal
-  made e = record { sign = sign; whole = front_digits text; behind_point = front_point (behind_digits text); exponent = e }
-  parts : (e : Option Exponent) → exponent_text e ≡ behind_front_point (behind_digits text)
-      → sign_text sign ++ (front_digits text ++ (point_text (front_point (behind_digits text)) ++ exponent_text e)) ≡ sign_text sign ++ text
-  parts e k =
-      ap (λ t. sign_text sign ++ (front_digits text ++ (point_text (front_point (behind_digits text)) ++ t))) k
-      ∙ ap (λ t. sign_text sign ++ (front_digits text ++ t)) (point_parts (behind_digits text))
-      ∙ ap (λ t. sign_text sign ++ t) (digits_parts text)
-  by : (t : Bool) → nat_lt 0 (prefix_len is_ascii_digit text) ≡ t
-      → (o : Option (Option Exponent)) → exponent_of (behind_front_point (behind_digits text)) ≡ o
-      → cond t (option_map (λ e. record { sign = sign; whole = front_digits text; behind_point = front_point (behind_digits text); exponent = e }) o) None ≡ Some l
-      → Spells (sign_text sign ++ text) l
-  by false k o g e = absurd (cc)
-  by true k None g e = absurd (cc)
-  by true k (Some x) g e =
-      let same : record { sign = sign; whole = front_digits text; behind_point = front_point (behind_digits text); exponent = x } ≡ l = cc in
-      let exponent = exponent_parts (behind_front_point (behind_digits text)) x g in
-      subst (λ y. Spells (sign_text sign ++ text) y) same (record {
-        written = joined (sign_text sign) (front_digits text) (point_text (front_point (behind_digits text))) (exponent_text x) ∙ parts x exponent.written;
-        whole = front_is_digits text;
-        some = grind (arith, nat_tests, length-prefix_len is_ascii_digit text);
-        behind_point = front_point_is_digits (behind_digits text);
-        exponent = exponent.formed;
-      })
+      made : Option Exponent → Literal
+      made e = record { sign = sign; whole = front_digits text; behind_point = front_point (behind_digits text); exponent = e }
+
+      parts : (e : Option Exponent) → exponent_text e ≡ behind_front_point (behind_digits text)
+          → sign_text sign ++ (front_digits text ++ (point_text (front_point (behind_digits text)) ++ exponent_text e)) ≡ sign_text sign ++ text
+      parts e k =
+          ap (λ t. sign_text sign ++ (front_digits text ++ (point_text (front_point (behind_digits text)) ++ t))) k
+          ∙ ap (λ t. sign_text sign ++ (front_digits text ++ t)) (point_parts (behind_digits text))
+          ∙ ap (λ t. sign_text sign ++ t) (digits_parts text)
+
+      by : (t : Bool) → nat_lt 0 (prefix_len is_ascii_digit text) ≡ t
+          → (o : Option (Option Exponent)) → exponent_of (behind_front_point (behind_digits text)) ≡ o
+          → cond t (option_map (λ e. record { sign = sign; whole = front_digits text; behind_point = front_point (behind_digits text); exponent = e }) o) None ≡ Some l
+          → Spells (sign_text sign ++ text) l
+      by false k o g e = absurd (cc)
+      by true k None g e = absurd (cc)
+      by true k (Some x) g e =
+          let same : record { sign = sign; whole = front_digits text; behind_point = front_point (behind_digits text); exponent = x } ≡ l = cc in
+          let exponent = exponent_parts (behind_front_point (behind_digits text)) x g in
+          subst (λ y. Spells (sign_text sign ++ text) y) same (record {
+            written = joined (sign_text sign) (front_digits text) (point_text (front_point (behind_digits text))) (exponent_text x) ∙ parts x exponent.written;
+            whole = front_is_digits text;
+            some = grind (arith, nat_tests, length-prefix_len is_ascii_digit text);
+            behind_point = front_point_is_digits (behind_digits text);
+            exponent = exponent.formed;
+          })
 
 -- a literal that is read is spelt by the text
 pub read_spelt : (text : List ℕ) (l : Literal) → literal_of text ≡ Some l → Spells text l

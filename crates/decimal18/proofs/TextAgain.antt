@@ -1,6 +1,6 @@
 -- The text of a bound is read as the bound again.
-use Rattle.std.specs.Prelude.{◌≡◌, ℕ, zero, suc, ◌+◌, ◌-◌, ◌*◌, ◌/◌, ◌%◌, ◌^◌, ◌<◌, ◌≤◌, ◌&&◌, Bool, true, false, cond, ℤ, pos, negsuc, neg_ℤ, ◌⊎◌, unsigned_abs, List, [], ◌∷◌, ◌++◌, length, codes, decimal, Option, None, Some, Ok, refl}
-use Rattle.std.proofs.Common.{sym, ap, subst, ◌∙◌, arith, rules, inl, inr, append_assoc, length-append}
+use Rattle.std.specs.Prelude.{◌≡◌, ℕ, zero, suc, ◌+◌, ◌*◌, ◌/◌, ◌%◌, ◌^◌, ◌<◌, ◌≤◌, true, ℤ, pos, negsuc, ◌⊎◌, unsigned_abs, List, [], ◌∷◌, ◌++◌, length, codes, decimal, None, Ok, refl}
+use Rattle.std.proofs.Common.{sym, ap, ◌∙◌, arith, inl, inr, length-append}
 use mathlib.Core.List.{append-nil}
 use Rattle.std.proofs.Math.Dec.{lit≤}
 use Rattle.std.proofs.lemmas.Bool.{cases_lt}
@@ -12,10 +12,10 @@ use Rattle.std.proofs.lemmas.Str.{digit_value_digit}
 use Rattle.std.specs.Char.{is_ascii_digit, digit_value}
 use Rattle.std.specs.Int.{IsInRange}
 use Rattle.std.specs.Str.Parse.{digits_value, digits_value_after}
-use Rattle.decimal18.specs.Bound.{Bound, scaled, value_of, canonical, IsBound, IsCanonical}
+use Rattle.decimal18.specs.Bound.{Bound, scaled, canonical, IsBound, IsCanonical}
 use Rattle.decimal18.specs.Text.{last_digits, sign_of, behind_point, text_of}
 use Rattle.decimal18.specs.Digits.{signed}
-use Rattle.decimal18.specs.Literal.{Sign, Unsigned, Minus, Literal, sign_text, point_text, text_of_literal, are_digits, is_minus, Spells, exact_of, as_bound, in_range, read, literal_of, parsed}
+use Rattle.decimal18.specs.Literal.{Sign, Unsigned, Minus, Literal, sign_text, point_text, text_of_literal, are_digits, is_minus, Spells, exact_of, as_bound, in_range, read, parsed}
 use Rattle.decimal18.proofs.Canonical.{IsReduced-canonical, one_canonical}
 use Rattle.decimal18.proofs.LiteralBound.{in_form}
 use Rattle.decimal18.proofs.LiteralDigits.{numerals, both_true, digit_in, after-append}
@@ -114,9 +114,9 @@ exact_same b h =
     let last = last_digits b.places size in
     let sign = is_minus (sign_printed b.coefficient) in
     let value : digits_value 10 (decimal whole ++ last) ≡ size =
-        after-append (decimal whole) last 0
-        ∙ ap (λ k. digits_value_after 10 k last) (digits_value-decimal numerals whole (omega (arith, h.digits, div-le_self size (10 ^ b.places))))
-        ∙ all_again b.places size in
+    after-append (decimal whole) last 0
+    ∙ ap (λ k. digits_value_after 10 k last) (digits_value-decimal numerals whole (omega (arith, h.digits, div-le_self size (10 ^ b.places))))
+    ∙ all_again b.places size in
     let times : digits_value 10 (decimal whole ++ last) * 1 ≡ size = omega (arith, value) in
     let places : length last + 0 ≡ b.places = omega (arith, length_last b.places size) in
     ap (λ n. scaled (signed sign n) (length last + 0)) times
@@ -124,9 +124,10 @@ exact_same b h =
     ∙ ap (λ k. scaled b.coefficient k) places
 
 pub read_again : (b : Bound) → IsBound b → IsCanonical b → parsed (text_of b) ≡ Ok b
+unfolding parsed
 read_again b h least =
     let same : canonical b.coefficient b.places ≡ b =
-        one_canonical (canonical b.coefficient b.places) b (IsReduced-canonical b.coefficient b.places).canonical least (IsReduced-canonical b.coefficient b.places).same in
+    one_canonical (canonical b.coefficient b.places) b (IsReduced-canonical b.coefficient b.places).canonical least (IsReduced-canonical b.coefficient b.places).same in
     ap read (spelt_read (text_of b) (printed b) (printed_spells b h))
     ∙ ap (λ x. in_range (as_bound x)) (exact_same b h)
     ∙ ap in_range (in_form b.coefficient b.places h)
@@ -151,6 +152,7 @@ length_front : (p n : ℕ) → p ≤ 36 → n < 10 ^ 18 → length (decimal (n /
 length_front p n most few = by (cases_lt p 18) where
   small : n / 10 ^ p < 10 ^ 18
   small = omega (arith, div-le_self n (10 ^ p))
+
   by : (p < 18) ⊎ (18 ≤ p) → length (decimal (n / 10 ^ p)) + p ≤ 37
   by (inl h) = omega (arith, length-decimal-le 18 (n / 10 ^ p) (omega arith) small (omega (arith, small)))
   by (inr h) =

@@ -1,5 +1,5 @@
 -- Literals: the texts that are numbers, and the bound that such a text is.
-use Rattle.std.specs.Prelude.{◌≡◌, ◌≢◌, ℕ, ◌+◌, ◌*◌, ◌^◌, ◌≤◌, ◌<◌, ◌==◌, ◌&&◌, ◌||◌, Bool, true, false, nat_lt, nat_le, if◌then◌else◌, IsTrue, ℤ, pos, neg_ℤ, unsigned_abs, List, [], ◌∷◌, ◌++◌, length, take, drop, codes, Option, None, Some, option_map, Result, Ok, Err}
+use Rattle.std.specs.Prelude.{◌≡◌, ◌≢◌, ℕ, ◌+◌, ◌*◌, ◌^◌, ◌<◌, ◌==◌, ◌&&◌, ◌||◌, Bool, true, false, nat_lt, nat_le, if◌then◌else◌, unsigned_abs, List, [], ◌∷◌, ◌++◌, length, take, drop, codes, Option, None, Some, option_map, Result, Ok, Err}
 use Rattle.std.specs.List.{list_all, prefix_len}
 use Rattle.std.specs.Char.{is_ascii_digit}
 use Rattle.std.specs.Str.Parse.{digits_value}
@@ -29,15 +29,18 @@ pub record Literal : Type 0 where
   pub behind_point : List ℕ
   pub exponent : Option Exponent
 
+-- the sign as it is written
 abbrev pub sign_text : Sign → List ℕ
 sign_text Unsigned = []
 sign_text Plus = codes "+"
 sign_text Minus = codes "-"
 
+-- the point and the digits behind it, and nothing where there are none
 abbrev pub point_text : List ℕ → List ℕ
 point_text [] = []
 point_text (digit ∷ digits) = codes "." ++ digit ∷ digits
 
+-- the exponent as it is written
 abbrev pub exponent_text : Option Exponent → List ℕ
 exponent_text None = []
 exponent_text (Some e) = e.letter ∷ sign_text e.sign ++ e.digits
@@ -46,6 +49,7 @@ exponent_text (Some e) = e.letter ∷ sign_text e.sign ++ e.digits
 abbrev pub text_of_literal : Literal → List ℕ
 text_of_literal l = sign_text l.sign ++ l.whole ++ point_text l.behind_point ++ exponent_text l.exponent
 
+-- each byte is a digit
 abbrev pub are_digits : List ℕ → Bool
 are_digits text = list_all is_ascii_digit text
 
@@ -57,6 +61,7 @@ is_exponent_letter byte = byte == 101 || byte == 69
 abbrev pub are_exponent_digits : List ℕ → Bool
 are_exponent_digits text = are_digits text && (nat_lt 0 (length text) && nat_le (length text) 3)
 
+-- an exponent has its letter and its digits; a literal needs none
 abbrev pub is_exponent : Option Exponent → Bool
 is_exponent None = true
 is_exponent (Some e) = is_exponent_letter e.letter && are_exponent_digits e.digits
@@ -69,6 +74,7 @@ pub record Spells (text : List ℕ) (l : Literal) : Type 0 where
   pub behind_point : are_digits l.behind_point ≡ true
   pub exponent : is_exponent l.exponent ≡ true
 
+-- the sign is a `-`
 abbrev pub is_minus : Sign → Bool
 is_minus Unsigned = false
 is_minus Plus = false
@@ -103,16 +109,20 @@ pub record IsOutOfRange (text : List ℕ) : Type 0 where
   pub no_bound : (b : Bound) → IsBound b → value_of b ≢ value
 
 -- ---- the literal that a text is, if any
+-- the digits at the front, as many as there are
 abbrev pub front_digits : List ℕ → List ℕ
 front_digits text = take (prefix_len is_ascii_digit text) text
 
+-- what follows the digits at the front
 abbrev pub behind_digits : List ℕ → List ℕ
 behind_digits text = drop (prefix_len is_ascii_digit text) text
 
+-- the sign at the front
 abbrev pub front_sign : List ℕ → Sign
 front_sign [] = Unsigned
 front_sign (byte ∷ bytes) = if byte == 43 then Plus else if byte == 45 then Minus else Unsigned
 
+-- what follows the sign at the front
 abbrev pub behind_sign : List ℕ → List ℕ
 behind_sign [] = []
 behind_sign (byte ∷ bytes) = if byte == 43 then bytes else if byte == 45 then bytes else byte ∷ bytes
@@ -140,10 +150,11 @@ abbrev pub unsigned_literal : Sign → List ℕ → Option Literal
 unsigned_literal sign text =
     if nat_lt 0 (prefix_len is_ascii_digit text)
     then option_map
-        (λ e. record { sign = sign; whole = front_digits text; behind_point = front_point (behind_digits text); exponent = e })
-        (exponent_of (behind_front_point (behind_digits text)))
+    (λ e. record { sign = sign; whole = front_digits text; behind_point = front_point (behind_digits text); exponent = e })
+    (exponent_of (behind_front_point (behind_digits text)))
     else None
 
+-- the literal that the text is
 abbrev pub literal_of : List ℕ → Option Literal
 literal_of text = unsigned_literal (front_sign text) (behind_sign text)
 
@@ -156,14 +167,16 @@ is_bound b = nat_lt (unsigned_abs b.coefficient) (10 ^ 18) && nat_le b.places 36
 abbrev pub as_bound : Bound → Option Bound
 as_bound b = let c = canonical b.coefficient b.places in if is_bound c then Some c else None
 
+-- NumberRange where the literal's number is no bound
 abbrev pub in_range : Option Bound → Result Bound NumFault
 in_range None = Err NumberRange
 in_range (Some b) = Ok b
 
+-- NotNumber where there is no literal
 abbrev pub read : Option Literal → Result Bound NumFault
 read None = Err NotNumber
 read (Some l) = in_range (as_bound (exact_of l))
 
 -- the bound that the text is; NotNumber where it is no literal, NumberRange where its value is no bound
-abbrev pub parsed : List ℕ → Result Bound NumFault
+unfoldable pub parsed : List ℕ → Result Bound NumFault
 parsed text = read (literal_of text)

@@ -29,5 +29,8 @@ pub use byte_list::Bytes;
 pub use decimal::Dec;
 pub use laws::{down_is_greatest, one_canonical_form, up_is_least, worked_roundings, worked_texts};
 pub use literal::{NumFault, parse};
-pub use literal_laws::{printed_bounds_are_read_again, texts_spell_one_literal, worked_literals};
+pub use literal_laws::{
+    digits_and_power_decide_bounds, printed_bounds_are_read_again, texts_spell_one_literal,
+    worked_literals,
+};
 pub use std::alloc::AllocError as OutOfMemory;

@@ -1,9 +1,9 @@
 //! Literals: texts that are numbers, read exactly.
 
-ghost use Rattle.std.specs.Prelude.{true, ◌≡◌, ℕ, ◌+◌, ◌*◌, ◌/◌, ◌%◌, ◌^◌, ◌<◌, ◌≤◌, ◌≢◌, ◌↔◌, Option, None, IfSome, IfOk, Err, ◌++◌, length, option_map};
-ghost use Rattle.std.specs.List.{list_all, prefix_len};
+ghost use Rattle.std.specs.Prelude.{true, ◌≡◌, ℕ, ◌+◌, ◌*◌, ◌/◌, ◌%◌, ◌^◌, ◌<◌, ◌≤◌, ◌↔◌, Option, None, IfSome, IfOk, Err, ◌++◌, length, option_map};
+ghost use Rattle.std.specs.List.{prefix_len};
 ghost use Rattle.std.specs.Char.{is_ascii_digit};
-ghost use Rattle.std.specs.Str.Parse.{digits_value, digits_value_after};
+ghost use Rattle.std.specs.Str.Parse.{digits_value};
 ghost use Rattle.exact_fraction.specs.Number.{ℚ};
 ghost use Rattle.decimal18.specs.Bound.{scaled, value_of};
 ghost use Rattle.decimal18.specs.declared.literal.NumFault.TheVariants.{NotNumber, NumberRange};
@@ -170,7 +170,11 @@ fn with_zeros(digits: u64, zeros: u64) -> Option<u64>
         return None;
     }
     let size = digits as u128 * 10u128.pow(zeros as u32);
-    if size < LIMIT { Some(size as u64) } else { None }
+    if size < LIMIT {
+        Some(size as u64)
+    } else {
+        None
+    }
 }
 
 /// The number `digits / 10^places` with the sign, as a bound.

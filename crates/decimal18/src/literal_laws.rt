@@ -1,8 +1,8 @@
-ghost use Rattle.std.specs.Prelude.{◌≡◌, ◌≤◌, ◌↔◌, ◌-◌, ◌^◌, ℕ, List, length, pos, negsuc, codes, Some, Ok, Err};
+ghost use Rattle.std.specs.Prelude.{◌≡◌, ◌≢◌, ◌<◌, ◌≤◌, ◌↔◌, ◌+◌, ◌-◌, ◌*◌, ◌%◌, ◌^◌, ℕ, IsSome, List, length, pos, negsuc, codes, Some, Ok, Err};
 ghost use Rattle.exact_fraction.specs.Number.{ℚ};
 ghost use Rattle.decimal18.specs.Bound.{Bound, scaled, IsBound, IsCanonical};
 ghost use Rattle.decimal18.specs.Text.{text_of};
-ghost use Rattle.decimal18.specs.Literal.{Literal, Spells, IsLiteral, literal_of, parsed};
+ghost use Rattle.decimal18.specs.Literal.{Literal, Spells, IsLiteral, literal_of, as_bound, parsed};
 ghost use Rattle.decimal18.specs.declared.literal.NumFault.TheVariants.{NotNumber, NumberRange};
 
 /// A text is read as a literal exactly where it is that literal's text, and has at most one value.
@@ -15,6 +15,14 @@ pub fn texts_spell_one_literal()
 pub fn printed_bounds_are_read_again()
     ensures again { (b : Bound) → IsBound b → IsCanonical b → parsed (text_of b) ≡ Ok b }
     ensures short { (b : Bound) → IsBound b → length (text_of b) ≤ 39 }
+{}
+
+/// Where `n` does not end in 0, `n * 10^raised / 10^lowered` is a bound exactly where it has at most
+/// 18 digits with the zeros behind them, and at most 36 places.
+pub fn digits_and_power_decide_bounds()
+    ensures { (n raised lowered : ℕ) → n % 10 ≢ 0
+        → IsSome (as_bound (scaled (pos (n * 10 ^ raised)) lowered))
+        ↔ ((n * 10 ^ (raised - lowered) < 10 ^ 18) × (lowered ≤ raised + 36)) }
 {}
 
 /// What some texts are read as.

@@ -63,64 +63,42 @@ fn literals_that_are_bounds(rt: HostRuntime) -> Result<(), Fail> {
 #[test]
 fn literals_that_are_no_bounds(rt: HostRuntime) {
     for text in [
-            "1e-37",
-            "9e-37",
-            "999999999999999999e-37",
-            "1000000000000000000",
-            "-1000000000000000000",
-            "999999999999999999.5",
-            "0.9999999999999999999",
-            "1.000000000000000001",
-            "100000000000000000.1",
-            "1e18",
-            "100e16",
-            "0.001e21",
-            "1e999",
-            "1e-999",
-            "1234567890123456789e0",
+        "1e-37",
+        "9e-37",
+        "999999999999999999e-37",
+        "1000000000000000000",
+        "-1000000000000000000",
+        "999999999999999999.5",
+        "0.9999999999999999999",
+        "1.000000000000000001",
+        "100000000000000000.1",
+        "1e18",
+        "100e16",
+        "0.001e21",
+        "1e999",
+        "1e-999",
+        "1234567890123456789e0",
     ] {
-        assert_eq!(rt; parse(text.as_bytes()), Err(NumFault::NumberRange), "at {text}");
+        assert_eq!(rt;
+            parse(text.as_bytes()),
+            Err(NumFault::NumberRange),
+            "at {text}"
+        );
     }
 }
 
 #[test]
 fn texts_that_are_no_literals(rt: HostRuntime) {
     for text in [
-            "5.",
-            ".5",
-            "1e",
-            "1e+",
-            "1e-",
-            "e5",
-            "",
-            ".",
-            "+",
-            "-",
-            "--1",
-            "+-1",
-            "1-",
-            "1.2.3",
-            "1..2",
-            "1e1234",
-            "1e0000",
-            "1e-0001",
-            "1e5x",
-            "1e+5.0",
-            "0x10",
-            "1_000",
-            "1,5",
-            " 1",
-            "1 ",
-            "1 2",
-            "1.e5",
-            "1.5e",
-            "inf",
-            "NaN",
-            "-.5",
-            "E",
-            "1e+-5",
+        "5.", ".5", "1e", "1e+", "1e-", "e5", "", ".", "+", "-", "--1", "+-1", "1-", "1.2.3",
+        "1..2", "1e1234", "1e0000", "1e-0001", "1e5x", "1e+5.0", "0x10", "1_000", "1,5", " 1",
+        "1 ", "1 2", "1.e5", "1.5e", "inf", "NaN", "-.5", "E", "1e+-5",
     ] {
-        assert_eq!(rt; parse(text.as_bytes()), Err(NumFault::NotNumber), "at {text}");
+        assert_eq!(rt;
+            parse(text.as_bytes()),
+            Err(NumFault::NotNumber),
+            "at {text}"
+        );
     }
     assert_eq!(rt; parse(b"\x001"), Err(NumFault::NotNumber));
     assert_eq!(rt; parse(b"1\x00"), Err(NumFault::NotNumber));
@@ -128,7 +106,13 @@ fn texts_that_are_no_literals(rt: HostRuntime) {
 }
 
 // A front, so many bytes, and an end.
-fn long(rt: &HostRuntime, front: &str, byte: u8, count: usize, end: &str) -> Result<Vec<u8>, AllocError> {
+fn long(
+    rt: &HostRuntime,
+    front: &str,
+    byte: u8,
+    count: usize,
+    end: &str,
+) -> Result<Vec<u8>, AllocError> {
     let mut text = Vec::from_slice(rt.alloc(), front.as_bytes())?;
     for _ in 0..count {
         text.push(byte)?;
@@ -170,7 +154,11 @@ fn printed_bounds(rt: HostRuntime) -> Result<(), Fail> {
         (-5, 1, "-0.5"),
         (7, 36, "0.000000000000000000000000000000000007"),
         (-999_999_999_999_999_999, 18, "-0.999999999999999999"),
-        (-999_999_999_999_999_999, 36, "-0.000000000000000000999999999999999999"),
+        (
+            -999_999_999_999_999_999,
+            36,
+            "-0.000000000000000000999999999999999999",
+        ),
         (123_456_789_012_345_678, 17, "1.23456789012345678"),
     ] {
         let value = Dec::new(coefficient, places).ok_or("not a bound")?;

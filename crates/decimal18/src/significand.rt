@@ -19,7 +19,7 @@ const LIMIT: u128 = 1_000_000_000_000_000_000;
 const MOST_ZEROS: u64 = 16;
 
 impl Significand {
-    ghost use Rattle.std.specs.Prelude.{true, IfSome, IsTrue, length};
+    ghost use Rattle.std.specs.Prelude.{true, IfSome, length};
     ghost use Rattle.std.specs.Str.Parse.{digits_value_after};
     ghost use Rattle.decimal18.specs.Literal.{are_digits};
     ghost use Rattle.decimal18.specs.Significand.{number_of, ReadAs};

@@ -26,8 +26,8 @@ pub returns : goal.returns
 returns c =
     let n = number_of c.in_ok-size.size in
     let e = parts_value
-        c.args.whole.now c.args.behind_point.now (number_of c.in_ok-append.field-0) n
-        (rw c.in_ok-append.was at c.append.ensures.read) (rw c.in_ok-size.was at c.append-2.ensures.read) in
+    c.args.whole.now c.args.behind_point.now (number_of c.in_ok-append.field-0) n
+    (rw c.in_ok-append.was at c.append.ensures.read) (rw c.in_ok-size.was at c.append-2.ensures.read) in
     c.scaled_bound.ensures
     ∙ ap (λ m. as_bound (scaled (signed c.args.negative m) (length c.args.behind_point.now + c.args.power.lowered)))
     (more_zeros _ c.in_ok-size.size.digits c.in_ok-size.size.zeros c.args.power.raised e)

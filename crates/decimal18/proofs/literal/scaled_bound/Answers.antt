@@ -1,4 +1,4 @@
-use Rattle.std.proofs.Common.{rules, ◌≡◌, ◌+◌, None, arith, sym}
+use Rattle.std.proofs.Common.{rules, ◌≡◌, None, arith, sym}
 use Rattle.decimal18.proofs.LiteralBound.{zero_is, wide_is, deep_is, wide_is_none, deep_is_none}
 use Rattle.decimal18.proofs.literal.scaled_bound.Goals as goal
 

@@ -1,5 +1,3 @@
-use Rattle.std.proofs.Common.{◌≡◌, true, take}
-use Rattle.decimal18.specs.Literal.{are_digits}
 use Rattle.decimal18.proofs.LiteralDigits.{front_is_digits}
 use Rattle.decimal18.proofs.literal.split_digits.Goals as goal
 

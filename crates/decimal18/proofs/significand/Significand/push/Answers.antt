@@ -1,4 +1,4 @@
-use Rattle.std.proofs.Common.{◌≡◌, ◌+◌, ◌*◌, ◌^◌, ◌≤◌, ◌%◌, arith, ap}
+use Rattle.std.proofs.Common.{◌*◌, arith, ap}
 use Rattle.decimal18.proofs.LiteralDigits.{one_zero_more, one_digit_more, no_zero_last, many_zeros}
 use Rattle.decimal18.proofs.significand.Significand.push.Goals as goal
 
