@@ -3,3 +3,16 @@ pub mod Canonical
 pub mod Rounding
 pub mod Upward
 pub mod Sums
+pub mod LiteralDigits
+pub mod LiteralBound
+pub mod LiteralText
+pub mod LiteralRead
+pub mod TextAgain
+pub mod Answered
+pub mod Tens
+pub mod Zeros
+pub mod Printing
+pub mod CutOff
+pub mod Counting
+pub mod Products
+pub mod Quotients

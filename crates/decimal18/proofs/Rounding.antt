@@ -54,8 +54,16 @@ finer_low x m p k small low h =
     omega (arith, ints)
 
 -- no more places would do: there are 36, or the floor at one more has more than 18 digits
-IsLong : ℚ → ℕ → Type 0
+pub IsLong : ℚ → ℕ → Type 0
 IsLong x p = (p ≡ 36) ⊎ (fits_18_digits (floor_at x (p + 1)) ≡ false)
+
+pub long-of_36 : (x : ℚ) (p : ℕ) → p ≡ 36 → IsLong x p
+unfolding IsLong
+long-of_36 x p e = inl e
+
+pub long-of_unfit : (x : ℚ) (p : ℕ) → fits_18_digits (floor_at x (p + 1)) ≡ false → IsLong x p
+unfolding IsLong
+long-of_unfit x p e = inr e
 
 too_long : (z : ℤ) → fits_18_digits z ≡ false → (pos (10 ^ 18) ≤ℤ z) ⊎ (z ≤ℤ neg_ℤ (pos (10 ^ 18)))
 too_long (pos a) h = let g = ltb-false _ _ h in inl (omega (arith, ints))
@@ -84,7 +92,7 @@ by_places x p b bound below (inr e) (inl h) =
     (more_places x b.coefficient p (b.places - (p + 1)) bound.digits (rw k below) (too_long (floor_at x (p + 1)) e))
 
 -- the floor at the most places that leave 18 digits is the greatest bound not above
-greatest_at : (x : ℚ) (p : ℕ) → p ≤ 36 → fits_18_digits (floor_at x p) ≡ true → IsLong x p → IsDown x (canonical (floor_at x p) p)
+pub greatest_at : (x : ℚ) (p : ℕ) → p ≤ 36 → fits_18_digits (floor_at x p) ≡ true → IsLong x p → IsDown x (canonical (floor_at x p) p)
 greatest_at x p most short long =
     let c = floor_at x p in
     let reduced = IsReduced-canonical c p in

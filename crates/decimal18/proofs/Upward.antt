@@ -14,18 +14,18 @@ use Rattle.decimal18.specs.Bound.{Bound, scaled, fraction_of, value_of, IsBound,
 use Rattle.decimal18.specs.Down.{IsDown, IsUp, IsInRange, top, down, up, negated}
 use Rattle.decimal18.proofs.Rounding.{down_some, some_down, down_none, none_down}
 
-neg-neg : (z : ℤ) → neg_ℤ (neg_ℤ z) ≡ z
+pub neg-neg : (z : ℤ) → neg_ℤ (neg_ℤ z) ≡ z
 neg-neg z = omega (arith, ints)
 
 twice : (q : Fraction) → fraction.negated (fraction.negated q) ≈ q
 unfolding fraction.negated
 twice q = record { same = ap (λ z. z *ℤ pos q.den) (neg-neg q.num) }
 
-neg_ℚ-neg_ℚ : (x : ℚ) → neg_ℚ (neg_ℚ x) ≡ x
+pub neg_ℚ-neg_ℚ : (x : ℚ) → neg_ℚ (neg_ℚ x) ≡ x
 unfolding neg_ℚ fraction.negated /_rec
 neg_ℚ-neg_ℚ = /_elim_prop (λ x. neg_ℚ (neg_ℚ x) ≡ x) (λ x. /_set _ _) (λ q. eq/ (fraction.negated (fraction.negated q)) q (twice q))
 
-value-negated : (b : Bound) → value_of (negated b) ≡ neg_ℚ (value_of b)
+pub value-negated : (b : Bound) → value_of (negated b) ≡ neg_ℚ (value_of b)
 unfolding value_of neg_ℚ fraction.negated /_rec
 value-negated b = eq/ _ _ (≈_refl (fraction_of (negated b)))
 
@@ -40,7 +40,7 @@ same_size (negsuc n) = refl
 IsBound-negated : (b : Bound) → IsBound b → IsBound (negated b)
 IsBound-negated b h = record { digits = rw (same_size b.coefficient) h.digits; most = h.most }
 
-IsCanonical-negated : (b : Bound) → IsCanonical b → IsCanonical (negated b)
+pub IsCanonical-negated : (b : Bound) → IsCanonical b → IsCanonical (negated b)
 IsCanonical-negated b h = record { least = rw (same_size b.coefficient) h.least }
 
 pub IsInRange-neg_ℚ : (x : ℚ) → IsInRange x → IsInRange (neg_ℚ x)

@@ -36,11 +36,10 @@ pub record IsBound (b : Bound) : Type 0 where
 pub record IsCanonical (b : Bound) : Type 0 where
   pub least : 0 < b.places → unsigned_abs b.coefficient % 10 ≢ 0
 
--- a bound that is a whole number
-pub record IsWhole (b : Bound) : Type 0 where
+-- a bound in the form that each number has once
+pub record IsDecimal (b : Bound) : Type 0 where
   pub bound : IsBound b
   pub canonical : IsCanonical b
-  pub whole : b.places ≡ 0
 
 -- c / 10 ^ p in canonical form: without the zeros at the end of the digits behind the point
 abbrev pub canonical : ℤ → ℕ → Bound

@@ -1,3 +1,6 @@
 pub mod Bound
 pub mod Down
+pub mod Digits
 pub mod Text
+pub mod Literal
+pub mod Significand

@@ -58,6 +58,19 @@ impl Bytes {
         Ok(())
     }
 
+    /// Puts `bytes` at the end.
+    ///
+    /// # Errors
+    ///
+    /// [`OutOfMemory`] where there is no memory for them; the list stays as it was.
+    pub(crate) fn extend_from_slice(&mut self, bytes: &[u8]) -> Result<(), OutOfMemory>
+        ensures ok { OnOk result (self.new ≡ self.old ++ bytes.now) }
+        ensures err { OnErr result (self.new ≡ self.old) }
+    {
+        self.vec.extend_from_slice(bytes)?;
+        Ok(())
+    }
+
     /// The bytes in order.
     pub fn as_slice(&self) -> &[u8]
         ensures { result.now ≡ self.now }

@@ -1,9 +1,13 @@
 ghost use Rattle.std.specs.Prelude.{◌≡◌, ◌<◌, ◌≤◌, ◌^◌, ◌↔◌, IsSome, IfSome, IfOk, unsigned_abs};
-ghost use Rattle.exact_fraction.specs.Number.{◌+ℚ◌};
-ghost use Rattle.decimal18.specs.Bound.{Bound, scaled, value_of, canonical, IsBound, IsCanonical};
-ghost use Rattle.decimal18.specs.Down.{down, up, IsDown, IsUp, IsInRange};
+ghost use Rattle.decimal18.specs.Bound.{canonical, IsBound, IsCanonical};
+ghost use Rattle.decimal18.specs.Down.{negated};
+ghost use Rattle.decimal18.specs.Digits.{signed};
 ghost use Rattle.decimal18.specs.Text.{text_of};
 
+use crate::magnitude::Magnitude;
+use crate::powers::power_of_ten;
+use crate::print::{push_behind_point, sign};
+use crate::sign::{is_negative, with_sign};
 use crate::{Bytes, OutOfMemory};
 use itoa::Buffer;
 use std::alloc::Global;
@@ -17,13 +21,13 @@ pub struct Dec {
 }
 
 impl Model for Dec {
-    ghost use Rattle.decimal18.specs.Bound.{Bound, IsWhole, scaled};
+    ghost use Rattle.decimal18.specs.Bound.{Bound, IsDecimal, scaled};
 
     ghost Value = { Bound };
 
     ghost view = { λ d. record { coefficient = d.coefficient; places = d.places } };
 
-    ghost invariant = { λ d. IsWhole (scaled d.coefficient d.places) };
+    ghost invariant = { λ d. IsDecimal (scaled d.coefficient d.places) };
 
     ghost inverse = { λ b. record { coefficient = b.coefficient; places = b.places } };
 }
@@ -32,21 +36,33 @@ impl Model for Dec {
 const LIMIT: u64 = 1_000_000_000_000_000_000;
 
 impl Dec {
-    /// The number `coefficient / 10^places`, and `None` where it is no bound.
-    /// In this version `places` has to be 0.
+    /// The number `coefficient / 10^places`, and `None` where it is no bound. Zeros at the end of the
+    /// digits behind the point do not count.
     pub fn new(coefficient: i64, places: u8) -> Option<Dec>
-        requires whole { places ≡ 0 }
-        ensures valid { IsSome result ↔ IsBound (scaled coefficient places) }
+        ensures valid { IsSome result ↔ IsBound (canonical coefficient places) }
         ensures value { IfSome result (λ d. d ≡ canonical coefficient places) }
     {
-        if coefficient.unsigned_abs() < LIMIT {
-            Some(Dec {
-                coefficient,
-                places,
-            })
-        } else {
-            None
+        let size = Magnitude {
+            digits: coefficient.unsigned_abs(),
+            places: places as u32,
+        };
+        Dec::from_magnitude(is_negative(coefficient), size)
+    }
+
+    /// The number of this size, with the sign `-` where it is to be negative, and `None` where it is
+    /// no bound.
+    pub(crate) fn from_magnitude(negative: bool, size: Magnitude) -> Option<Dec>
+        ensures valid { IsSome result ↔ IsBound (canonical (signed negative size.digits) size.places) }
+        ensures value { IfSome result (λ d. d ≡ canonical (signed negative size.digits) size.places) }
+    {
+        let size = size.without_zeros();
+        if size.digits >= LIMIT || size.places > 36 {
+            return None;
         }
+        Some(Dec {
+            coefficient: with_sign(negative, size.digits),
+            places: size.places as u8,
+        })
     }
 
     /// The whole number of which `10^places` is the divisor; it has at most 18 digits.
@@ -66,6 +82,33 @@ impl Dec {
         self.places
     }
 
+    /// The negative, which is a bound too.
+    pub fn negated(self) -> Dec
+        ensures { result ≡ negated self }
+    {
+        Dec {
+            coefficient: -self.coefficient,
+            places: self.places,
+        }
+    }
+
+    // The coefficient without its sign.
+    pub(crate) fn size(self) -> u64
+        ensures value { result ≡ unsigned_abs self.coefficient }
+        ensures digits { result < 10 ^ 18 }
+        ensures most { self.places ≤ 36 }
+        ensures canonical { IsCanonical self }
+    {
+        self.coefficient.unsigned_abs()
+    }
+
+    // Whether the number is below 0.
+    pub(crate) fn is_negative(self) -> bool
+        ensures { self.coefficient ≡ signed result (unsigned_abs self.coefficient) }
+    {
+        is_negative(self.coefficient)
+    }
+
     /// The text of the number: `-` where it is negative, the whole part, and for places above 0 a
     /// point and that many digits.
     ///
@@ -75,37 +118,12 @@ impl Dec {
     pub fn print(self, alloc: Global) -> Result<Bytes, OutOfMemory>
         ensures { IfOk result (λ text. text ≡ text_of self) }
     {
-        let mut buffer = Buffer::new();
-        Bytes::from_slice(alloc, buffer.format(self.coefficient).as_bytes())
+        let size = self.coefficient.unsigned_abs();
+        let places = self.places as u32;
+        let whole = (size as u128 / power_of_ten(places)) as u64;
+        let mut text = Bytes::from_slice(alloc, sign(self.coefficient))?;
+        text.extend_from_slice(Buffer::new().format(whole).as_bytes())?;
+        push_behind_point(&mut text, size, places)?;
+        Ok(text)
     }
-}
-
-// Whole numbers are added without rounding.
-fn whole_sum(a: Dec, b: Dec) -> Option<Dec>
-    ensures down { result ≡ down (value_of a +ℚ value_of b) }
-    ensures up { result ≡ up (value_of a +ℚ value_of b) }
-{
-    Dec::new(a.coefficient + b.coefficient, 0)
-}
-
-/// The greatest bound not above `a + b`, and `None` where the sum is below -(10^18 - 1) or above
-/// 10^18 - 1.
-#[tactic(auto, using(crate::proofs::Sums::down_is))]
-pub fn add_down(a: Dec, b: Dec) -> Option<Dec>
-    ensures exact { result ≡ down (value_of a +ℚ value_of b) }
-    ensures greatest { IfSome result (IsDown (value_of a +ℚ value_of b)) }
-    ensures defined { IsSome result ↔ IsInRange (value_of a +ℚ value_of b) }
-{
-    whole_sum(a, b)
-}
-
-/// The least bound not below `a + b`, and `None` where the sum is below -(10^18 - 1) or above
-/// 10^18 - 1.
-#[tactic(auto, using(crate::proofs::Sums::up_is))]
-pub fn add_up(a: Dec, b: Dec) -> Option<Dec>
-    ensures exact { result ≡ up (value_of a +ℚ value_of b) }
-    ensures least { IfSome result (IsUp (value_of a +ℚ value_of b)) }
-    ensures defined { IsSome result ↔ IsInRange (value_of a +ℚ value_of b) }
-{
-    whole_sum(a, b)
 }

@@ -7,6 +7,10 @@ fn whole(n: i64) -> Result<Dec, &'static str> {
     Dec::new(n, 0).ok_or("not a bound")
 }
 
+fn dec(coefficient: i64, places: u8) -> Result<Dec, &'static str> {
+    Dec::new(coefficient, places).ok_or("not a bound")
+}
+
 #[test]
 fn bounds(rt: HostRuntime) -> Result<(), Fail> {
     assert_eq!(rt; whole(-12)?.coefficient(), -12);
@@ -14,6 +18,23 @@ fn bounds(rt: HostRuntime) -> Result<(), Fail> {
     assert_eq!(rt; whole(MOST)?.coefficient(), MOST);
     for n in [MOST + 1, -MOST - 1, i64::MIN] {
         assert_eq!(rt; Dec::new(n, 0), None, "at {n}");
+    }
+    for (n, places) in [(MOST, 37), (MOST + 2, 1), (1, 255), (10, 38)] {
+        assert_eq!(rt; Dec::new(n, places), None, "at {n} and {places}");
+    }
+    for (n, places, short, fewer) in [
+        (MOST + 1, 1, 100_000_000_000_000_000, 0),
+        (-9_223_372_036_854_775_800, 2, -92_233_720_368_547_758, 0),
+        (-9_223_372_036_854_775_800, 1, -922_337_203_685_477_580, 0),
+        (-1_200, 38, -12, 36),
+        (0, 255, 0, 0),
+        (1_050, 3, 105, 2),
+    ] {
+        assert_eq!(rt;
+            Dec::new(n, places),
+            Dec::new(short, fewer),
+            "at {n} and {places}"
+        );
     }
     Ok(())
 }
@@ -41,8 +62,16 @@ fn sums(rt: HostRuntime) -> Result<(), Fail> {
 
 #[test]
 fn texts(rt: HostRuntime) -> Result<(), Fail> {
-    for (n, text) in [(0, "0"), (-12, "-12"), (MOST, "999999999999999999")] {
-        let printed = whole(n)?.print(rt.alloc())?;
+    for (n, places, text) in [
+        (0, 0, "0"),
+        (-12, 0, "-12"),
+        (MOST, 0, "999999999999999999"),
+        (105, 2, "1.05"),
+        (-5, 1, "-0.5"),
+        (1, 36, "0.000000000000000000000000000000000001"),
+        (-MOST, 18, "-0.999999999999999999"),
+    ] {
+        let printed = dec(n, places)?.print(rt.alloc())?;
         assert_eq!(rt; printed.as_slice(), text.as_bytes(), "at {n}");
     }
     Ok(())

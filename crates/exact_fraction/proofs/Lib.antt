@@ -1,3 +1,4 @@
 pub mod OrderLaws
 pub mod Quotients
 pub mod Ring
+pub mod Comparisons

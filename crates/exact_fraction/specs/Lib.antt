@@ -1,7 +1,8 @@
--- Read Fraction and Number, which have the definitions. The other files have lemmas, by which those of
+-- Read Fraction, Number and Ratio, which have the definitions. The other files have lemmas, by which those of
 -- Number are definitions, and on which the crates above rest theirs.
 pub mod Fraction
 pub mod Number
+pub mod Ratio
 pub mod NumberLaws
 pub mod FractionLaws
 pub mod Floor

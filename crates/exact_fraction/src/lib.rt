@@ -1,19 +1,25 @@
 //! Exact numbers: fractions of whole numbers that have no largest.
 //!
-//! This crate has no code to run. It is what the contracts of the crates above it speak of: where
-//! one of them says that a rounded bound is not above a sum, that sum is a number of this crate,
-//! exact, whatever its digits. No program holds such a number.
+//! These numbers are what the contracts of the crates above speak of: where one of them says that a
+//! rounded bound is not above a sum, that sum is a number of this crate, exact, whatever its digits.
+//! No program holds such a number. What a program holds is a [`Ratio`], whose two parts fit in words.
 //!
 //! `Fraction` is a pair of whole numbers, the second of which is at least 1, and nothing is reduced:
 //! 1/2 and 2/4 are two fractions. `ℚ` has one number for both, so that equality of numbers is `≡`.
-//! The functions below have empty bodies. Each of their clauses is a law of the numbers, and together
+//! The functions of this file have empty bodies. Each of their clauses is a law of the numbers, and together
 //! they fix what a number, a sum, a product, a quotient, the order and the floor are: by them the
 //! definitions in `specs/` can be read, or be replaced.
 #![tactic(auto)]
 
+mod ratio;
+#[cfg(test)]
+mod tests;
+
 ghost use Rattle.std.specs.Prelude.{◌≡◌, ◌≢◌, ◌↔◌, ◌⊎◌, IsTrue, ℤ, pos, negsuc, ◌+ℤ◌, ◌*ℤ◌, neg_ℤ, ◌≤ℤ◌};
 ghost use Rattle.exact_fraction.specs.Fraction.{Fraction, ◌≈◌, ◌≼◌, ◌⊕◌, ◌⊗◌, negated, inverse};
 ghost use Rattle.exact_fraction.specs.Number.{ℚ, number_of, of_ℤ, ◌+ℚ◌, ◌*ℚ◌, ◌/ℚ◌, neg_ℚ, inv_ℚ, is_zero_ℚ, is_at_most_ℚ, ◌≤ℚ◌, floor_ℚ};
+
+pub use ratio::Ratio;
 
 /// Two fractions are of one number exactly where they are equal by cross multiplication, each number
 /// is that of some fraction, and it is the quotient of the fraction's two parts.

@@ -1,0 +1,49 @@
+ghost use Rattle.std.specs.Prelude.{◌≡◌, ◌*◌, ◌^◌, ◌<◌};
+ghost use Rattle.decimal18.specs.Digits.{IsWithoutZeros, HasFewZeros};
+
+/// A number without its sign: `digits / 10^places`.
+#[derive(Clone, Copy, Debug, PartialEq, Eq)]
+pub struct Magnitude {
+    pub digits: u64,
+    pub places: u32,
+}
+
+impl Magnitude {
+    /// The same number without the zeros at the end of the digits behind the point.
+    pub fn without_zeros(self) -> Magnitude
+        ensures same { IsWithoutZeros self.digits self.places result.digits result.places }
+        ensures few { HasFewZeros result.digits result.places 1 }
+    {
+        if self.digits == 0 {
+            return Magnitude {
+                digits: 0,
+                places: 0,
+            };
+        }
+        // 64 bits hold fewer than 32 zeros, so each step leaves fewer than it tried to take.
+        let number = self.shortened(16, 10_000_000_000_000_000);
+        let number = number.shortened(8, 100_000_000);
+        let number = number.shortened(4, 10_000);
+        let number = number.shortened(2, 100);
+        number.shortened(1, 10)
+    }
+
+    // Without so many zeros behind the point, where there are as many; `power` is 1 with these zeros.
+    #[inline(always)]
+    fn shortened(self, zeros: u32, power: u64) -> Magnitude
+        requires positive { 0 < self.digits }
+        requires power { power ≡ 10 ^ zeros }
+        ensures positive { 0 < result.digits }
+        ensures same { IsWithoutZeros self.digits self.places result.digits result.places }
+        ensures few { HasFewZeros self.digits self.places (2 * zeros) → HasFewZeros result.digits result.places zeros }
+    {
+        if zeros <= self.places && self.digits % power == 0 {
+            Magnitude {
+                digits: self.digits / power,
+                places: self.places - zeros,
+            }
+        } else {
+            self
+        }
+    }
+}

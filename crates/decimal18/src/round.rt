@@ -1,0 +1,105 @@
+ghost use Rattle.std.specs.Prelude.{◌≡◌, ◌≢◌, ◌↔◌, ◌+◌, ◌-◌, ◌*◌, ◌^◌, ◌<◌, ◌≤◌, ◌⊎◌, Bool, true, false, IfSome, IfNone};
+ghost use Rattle.exact_fraction.specs.Number.{ℚ};
+ghost use Rattle.decimal18.specs.Digits.{signed_ℚ, rounded, growth, IsCutOff, IsEnough, IsFirst, IsPast};
+
+use crate::Dec;
+use crate::direction::Direction;
+use crate::magnitude::Magnitude;
+use crate::powers::power_of_ten;
+
+// The greatest number of 18 digits.
+const MOST: u64 = 999_999_999_999_999_999;
+
+// The first digits of a number, 18 of them at most, and whether it has more.
+#[derive(Clone, Copy, Debug, PartialEq, Eq)]
+struct First {
+    digits: u64,
+    places: u32,
+    lost: bool,
+}
+
+/// The bound in this direction of a number that has these digits; `lost` says whether it has more.
+pub fn round(
+    negative: bool,
+    digits: u128,
+    places: u32,
+    lost: bool,
+    direction: Direction,
+) -> Option<Dec>
+    requires places { places ≤ 72 }
+    requires enough { IsEnough digits places lost }
+    ensures { (x : ℚ) → IsCutOff x digits places lost → result ≡ rounded direction (signed_ℚ negative x) }
+{
+    let first = first_digits(digits, places, lost)?;
+    if is_past_range(first) {
+        return None;
+    }
+    let size = Magnitude {
+        digits: first.digits + growth(negative, first.lost, direction),
+        places: first.places,
+    };
+    Dec::from_magnitude(negative, size)
+}
+
+// Whether the number is above the greatest bound, of which it has the digits.
+fn is_past_range(first: First) -> bool
+    ensures { (result ≡ true) ↔ IsPast first.digits first.places first.lost }
+{
+    first.lost && first.places == 0 && first.digits == MOST
+}
+
+// What rounding adds to the last digit of a size: it grows away from 0.
+fn growth(negative: bool, lost: bool, direction: Direction) -> u64
+    ensures value { result ≡ growth negative lost direction }
+    ensures most { result ≤ 1 }
+{
+    match (direction, negative, lost) {
+        (Direction::Down, true, true) | (Direction::Up, false, true) => 1,
+        _ => 0,
+    }
+}
+
+// As many of the first digits as a bound can have, and `None` where more than 18 stand in front of
+// the point.
+fn first_digits(digits: u128, places: u32, lost: bool) -> Option<First>
+    requires { places ≤ 72 }
+    ensures some { IfSome result (λ f. IsFirst digits places lost f.digits f.places f.lost) }
+    ensures none { IfNone result (10 ^ (18 + places) ≤ digits) }
+{
+    let count = surplus(digits).max(places.saturating_sub(36));
+    if count > places {
+        return None;
+    }
+    let power = power_of_ten(count);
+    Some(First {
+        digits: (digits / power) as u64,
+        places: places - count,
+        lost: has_more(lost, digits % power),
+    })
+}
+
+/// Whether something is left out: before, or by this rest.
+pub fn has_more(before: bool, rest: u128) -> bool
+    ensures { (result ≡ false) ↔ ((before ≡ false) × (rest ≡ 0)) }
+{
+    before || rest != 0
+}
+
+// By how many digits there are more than 18.
+fn surplus(digits: u128) -> u32
+    ensures below { digits < 10 ^ (18 + result) }
+    ensures reached { 0 < result → 10 ^ (17 + result) ≤ digits }
+    ensures most { result ≤ 21 }
+{
+    let mut low = 0;
+    let mut high = 21;
+    while low < high {
+        let middle = (low + high + 1) / 2;
+        if digits >= power_of_ten(17 + middle) {
+            low = middle;
+        } else {
+            high = middle - 1;
+        }
+    }
+    low
+}
