@@ -24,13 +24,13 @@ use Rattle.decimal18.proofs.Zeros.{size_of_signed}
 use Rattle.decimal18.proofs.Upward.{neg-neg, neg_ℚ-neg_ℚ, value-negated, IsCanonical-negated, IsInRange-neg_ℚ, none_up, up_some}
 
 -- the order of values is that of the coefficients at one number of places
-value-order : (m n : ℤ) (p : ℕ) → value_of (scaled m p) ≤ℚ value_of (scaled n p) → m ≤ℤ n
+pub value-order : (m n : ℤ) (p : ℕ) → value_of (scaled m p) ≤ℚ value_of (scaled n p) → m ≤ℤ n
 unfolding value_of
 value-order m n p h = cancel m n (10 ^ p) (one-le-pow p 10 (lit≤ tt)) (≼-of_≤ℚ (fraction_of (scaled m p)) (fraction_of (scaled n p)) h).at_most where
   cancel : (m n : ℤ) (t : ℕ) → 0 < t → (m *ℤ pos t) ≤ℤ (n *ℤ pos t) → m ≤ℤ n
   cancel m n t t0 h = le_cancel t m n t0 (rw (*ℤ_comm (pos t) m, *ℤ_comm (pos t) n) h)
 
-le_pos : {m n : ℕ} → m ≤ n → pos m ≤ℤ pos n
+pub le_pos : {m n : ℕ} → m ≤ n → pos m ≤ℤ pos n
 le_pos h = omega (arith, ints)
 
 -- ---- bounds and the range
@@ -319,10 +319,10 @@ floor_at-value c p =
     le_both _ _ (value-order _ _ p (under_value _ p (value_of (scaled c p)) (≤ℤ_refl (floor_at (value_of (scaled c p)) p))))
     (under_floor c p (value_of (scaled c p)) (≤ℚ_refl (value_of (scaled c p))))
 
-pos_same : {m n : ℕ} → pos m ≡ pos n → m ≡ n
+pub pos_same : {m n : ℕ} → pos m ≡ pos n → m ≡ n
 pos_same e = cc
 
-below_quotient : (m : ℤ) (n d t r : ℕ) → (m *ℤ pos t) ≤ℤ pos n → n ≡ d * t + r → r < t → m ≤ℤ pos d
+pub below_quotient : (m : ℤ) (n d t r : ℕ) → (m *ℤ pos t) ≤ℤ pos n → n ≡ d * t + r → r < t → m ≤ℤ pos d
 below_quotient (pos a) n d t r h e b = by (cases_lt d a) where
   by : (d < a) ⊎ (a ≤ d) → pos a ≤ℤ pos d
   by (inr g) = omega (arith, ints)

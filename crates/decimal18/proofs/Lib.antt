@@ -9,3 +9,5 @@ pub mod Zeros
 pub mod Printing
 pub mod CutOff
 pub mod Counting
+pub mod Products
+pub mod Quotients

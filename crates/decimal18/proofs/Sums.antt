@@ -10,7 +10,7 @@ use Rattle.exact_fraction.specs.Whole.{diff_of, diff_same, push}
 use Rattle.exact_fraction.specs.Fraction.{◌⊕◌}
 use Rattle.exact_fraction.specs.Number.{ℚ, ◌+ℚ◌}
 use Rattle.decimal18.specs.Bound.{Bound, scaled, fraction_of, value_of, IsBound, IsCanonical}
-use Rattle.decimal18.specs.Digits.{signed, signed_ℚ, agree, joined, IsCutOff, IsEnough, IsPart}
+use Rattle.decimal18.specs.Digits.{signed, signed_ℚ, differ, joined, IsCutOff, IsEnough, IsPart}
 use Rattle.decimal18.proofs.Values.{value-shifted}
 use Rattle.decimal18.proofs.Zeros.{signed_times}
 use Rattle.decimal18.proofs.Counting.{powers_rise}
@@ -57,7 +57,7 @@ zero_sum c d p q k nb n ec ed ep =
       plain z = omega (arith, ints)
 
 -- ---- sums of numbers whose places are far from each other
-signed_joined : (na nb : Bool) (m n : ℕ) → n ≤ m → (signed na m +ℤ signed nb n) ≡ signed na (joined (agree na nb) m n)
+signed_joined : (na nb : Bool) (m n : ℕ) → n ≤ m → (signed na m +ℤ signed nb n) ≡ signed na (joined (differ na nb) m n)
 signed_joined true true m n h = omega (arith, ints)
 signed_joined true false m n h = omega (arith, ints)
 signed_joined false true m n h = omega (arith, ints)
@@ -65,13 +65,13 @@ signed_joined false false m n h = omega (arith, ints)
 
 pub far_value : (c d : ℤ) (na nb : Bool) (m n ten unit : ℕ) (p q k : ℕ) → c ≡ signed na m → d ≡ signed nb n → ten ≡ 10 ^ 18 → unit ≡ 10 ^ k
     → (p + 18) + k ≡ q → n < m * ten → 0 < unit
-    → signed_ℚ na (value_of (scaled (pos (joined (agree na nb) ((m * ten) * unit) n)) q)) ≡ value_of (scaled c p) +ℚ value_of (scaled d q)
+    → signed_ℚ na (value_of (scaled (pos (joined (differ na nb) ((m * ten) * unit) n)) q)) ≡ value_of (scaled c p) +ℚ value_of (scaled d q)
 far_value c d na nb m n ten unit p q k ec ed et eu ep h u0 =
     let one : 1 * (m * ten) ≤ unit * (m * ten) = mul-le-mul_right (m * ten) u0 in
     let t : (m * ten) * unit ≡ m * 10 ^ (18 + k) =
     ap (λ a. (m * a) * unit) et ∙ ap (λ a. (m * 10 ^ 18) * a) eu ∙ grouped m (10 ^ 18) (10 ^ k) ∙ ap (λ a. m * a) (sym (pow-add 10 18 k)) in
-    ap (λ a. signed_ℚ na (value_of (scaled (pos (joined (agree na nb) a n)) q))) t
-    ∙ near_sum c d na nb na m n (joined (agree na nb) (m * 10 ^ (18 + k)) n) (10 ^ (18 + k)) p q (18 + k) ec ed refl (omega arith)
+    ap (λ a. signed_ℚ na (value_of (scaled (pos (joined (differ na nb) a n)) q))) t
+    ∙ near_sum c d na nb na m n (joined (differ na nb) (m * 10 ^ (18 + k)) n) (10 ^ (18 + k)) p q (18 + k) ec ed refl (omega arith)
     (sym (signed_joined na nb (m * 10 ^ (18 + k)) n (subst (λ a. n ≤ a) t (omega arith)))) where
       grouped : (a b c : ℕ) → (a * b) * c ≡ a * (b * c)
       grouped a b c = omega arith
@@ -83,9 +83,9 @@ far_cut n unit d p q k lost eu ep h =
     (subst (λ a. n ≡ d * a + h.rest) eu h.split) (subst (λ a. h.rest < a) eu h.below) ((λ e. (refl, h.all.0 e)), (λ e. h.all.1 e.1)))
 
 -- ten units and more are above 18 digits
-pub far_enough : (together : Bool) (m n ten unit d k : ℕ) (lost : Bool) → 0 < m → n < 10 ^ 18 → ten ≡ 10 ^ 18 → unit ≡ 10 ^ k → 0 < k
-    → IsPart (joined together ((m * ten) * unit) n) unit d lost → 10 ^ 17 ≤ d
-far_enough together m n ten unit d k lost m0 small et eu k0 h = by (cases_lt d (10 ^ 17)) where
+pub far_enough : (apart : Bool) (m n ten unit d k : ℕ) (lost : Bool) → 0 < m → n < 10 ^ 18 → ten ≡ 10 ^ 18 → unit ≡ 10 ^ k → 0 < k
+    → IsPart (joined apart ((m * ten) * unit) n) unit d lost → 10 ^ 17 ≤ d
+far_enough apart m n ten unit d k lost m0 small et eu k0 h = by (cases_lt d (10 ^ 17)) where
   ten_units : 10 ≤ unit
   ten_units = let f : 10 ^ 1 ≤ 10 ^ k = powers_rise 1 k k0 in omega arith
 
@@ -99,16 +99,16 @@ far_enough together m n ten unit d k lost m0 small et eu k0 h = by (cases_lt d (
       let a : suc d * unit ≤ 10 ^ 17 * unit = mul-le-mul_right unit g in
       let b : 10 ^ 18 ≤ m * ten = rw et (mul-le-mul_right (10 ^ 18) m0) in
       let e : 10 ^ 18 * unit ≤ (m * ten) * unit = mul-le-mul_right unit b in
-      let f = least together ((m * ten) * unit) n in
+      let f = least apart ((m * ten) * unit) n in
       let s = h.split in
       let r = h.below in
       let u = ten_units in
       absurd (omega arith)
 
 -- ---- parts
-pub together_part : (lead size unit : ℕ) (lost : Bool) → 0 < unit → (lost ≡ false) ↔ ((false ≡ false) × (size % unit ≡ 0))
+pub joined_part : (lead size unit : ℕ) (lost : Bool) → 0 < unit → (lost ≡ false) ↔ ((false ≡ false) × (size % unit ≡ 0))
     → IsPart (lead * unit + size) unit (lead + size / unit) lost
-together_part lead size unit lost u0 h = record {
+joined_part lead size unit lost u0 h = record {
   rest = size % unit;
   split = omega arith;
   below = omega arith;

@@ -71,13 +71,13 @@ pub record IsPart (whole unit digits : ℕ) (lost : Bool) : Type 0 where
   pub below : rest < unit
   pub all : (lost ≡ false) ↔ (rest ≡ 0)
 
--- the sum of a size and one that is not greater, or the difference where their signs differ
-abbrev pub joined : Bool → ℕ → ℕ → ℕ
-joined true m n = m + n
-joined false m n = m - n
+-- whether two signs are not the same
+abbrev pub differ : Bool → Bool → Bool
+differ true true = false
+differ true false = true
+differ false b = b
 
--- whether two signs are the same
-abbrev pub agree : Bool → Bool → Bool
-agree true b = b
-agree false true = false
-agree false false = true
+-- the size of a signed sum of a size and one that is not greater, whose signs differ or not
+abbrev pub joined : Bool → ℕ → ℕ → ℕ
+joined true m n = m - n
+joined false m n = m + n

@@ -9,13 +9,17 @@ mod laws;
 mod magnitude;
 mod powers;
 mod print;
+mod product;
+mod quotient;
 mod round;
 mod sign;
 mod sum;
 #[cfg(test)]
 mod tests;
 
-pub use arithmetic::{add_down, add_up};
+pub use arithmetic::{
+    add_down, add_up, div_down, div_up, mul_down, mul_up, ratio_down, ratio_up, sub_down, sub_up,
+};
 pub use byte_list::Bytes;
 pub use decimal::Dec;
 pub use laws::{down_is_greatest, one_canonical_form, up_is_least, worked_roundings, worked_texts};

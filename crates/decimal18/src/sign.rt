@@ -1,5 +1,5 @@
 ghost use Rattle.std.specs.Prelude.{◌≡◌, ◌<◌, ◌^◌, unsigned_abs};
-ghost use Rattle.decimal18.specs.Digits.{signed};
+ghost use Rattle.decimal18.specs.Digits.{signed, differ};
 
 /// Whether the number is below 0.
 pub fn is_negative(number: i64) -> bool
@@ -18,4 +18,11 @@ pub fn with_sign(negative: bool, size: u64) -> i64
     } else {
         size as i64
     }
+}
+
+/// Whether the signs are not the same.
+pub fn differ(a: bool, b: bool) -> bool
+    ensures { result ≡ differ a b }
+{
+    a != b
 }

@@ -1,12 +1,13 @@
 ghost use Rattle.std.specs.Prelude.{◌≡◌, ◌≢◌, ◌+◌, ◌*◌, ◌^◌, ◌<◌, ◌≤◌, Bool, ◌+ℤ◌, pos, unsigned_abs};
-ghost use Rattle.exact_fraction.specs.Number.{◌+ℚ◌};
+ghost use Rattle.exact_fraction.specs.Number.{◌+ℚ◌, neg_ℚ};
 ghost use Rattle.decimal18.specs.Bound.{value_of};
-ghost use Rattle.decimal18.specs.Digits.{signed, rounded, agree, joined, IsPart};
+ghost use Rattle.decimal18.specs.Digits.{signed, rounded, joined, IsPart};
 
 use crate::Dec;
 use crate::direction::Direction;
 use crate::powers::power_of_ten;
 use crate::round::{has_more, round};
+use crate::sign::differ;
 
 // A size with its sign.
 #[derive(Clone, Copy, Debug, PartialEq, Eq)]
@@ -31,6 +32,13 @@ pub fn sum(a: Dec, b: Dec, direction: Direction) -> Option<Dec>
     } else {
         sum_by_places(b, a, direction)
     }
+}
+
+/// The bound in this direction of `a - b`.
+pub fn difference(a: Dec, b: Dec, direction: Direction) -> Option<Dec>
+    ensures { result ≡ rounded direction (value_of a +ℚ neg_ℚ (value_of b)) }
+{
+    sum(a, b.negated(), direction)
 }
 
 // The sum where `a` has no more places.
@@ -111,36 +119,30 @@ fn far_sum(a: Dec, b: Dec, direction: Direction) -> Option<Dec>
         lead,
         b.size() as u128,
         unit,
-        agree(negative, b.is_negative()),
+        differ(negative, b.is_negative()),
     );
     round(negative, part.digits, places, part.lost, direction)
 }
 
-fn agree(a: bool, b: bool) -> bool
-    ensures { result ≡ agree a b }
-{
-    a == b
-}
-
 // The digits in front of the unit of `lead` units and `size`, or of their difference.
-fn joined(lead: u128, size: u128, unit: u128, together: bool) -> Part
+fn joined(lead: u128, size: u128, unit: u128, apart: bool) -> Part
     requires unit { 0 < unit }
     requires lead { size < lead }
     requires fits { lead + size < 2 ^ 128 }
-    ensures { IsPart (joined together (lead * unit) size) unit result.digits result.lost }
+    ensures { IsPart (joined apart (lead * unit) size) unit result.digits result.lost }
 {
     let digits = size / unit;
     let lost = has_more(false, size % unit);
-    if together {
+    if apart {
+        // The last digits of the difference are what those of `size` lack to a unit.
+        let borrowed = if lost { 1 } else { 0 };
         return Part {
-            digits: lead + digits,
+            digits: lead - digits - borrowed,
             lost,
         };
     }
-    // The last digits of the difference are what those of `size` lack to a unit.
-    let borrowed = if lost { 1 } else { 0 };
     Part {
-        digits: lead - digits - borrowed,
+        digits: lead + digits,
         lost,
     }
 }

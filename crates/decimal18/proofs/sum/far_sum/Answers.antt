@@ -9,7 +9,7 @@ use Rattle.decimal18.proofs.sum.far_sum.Goals as goal
 pub round-requires-clause-enough : goal.round-requires-clause-enough
 round-requires-clause-enough c =
     record {
-      reason = inr (inr (far_enough c.agree.result c.size.result c.size-2.result c.power_of_ten.result c.power_of_ten-unit.result c.joined-part.result.digits
+      reason = inr (inr (far_enough c.differ.result c.size.result c.size-2.result c.power_of_ten.result c.power_of_ten-unit.result c.joined-part.result.digits
           (c.places-2.result - (c.places.result + 18)) c.joined-part.result.lost (omega (arith, c.requires.positive, c.size.ensures.value)) c.size-2.ensures.digits
           c.power_of_ten.ensures.value c.power_of_ten-unit.ensures.value (omega arith) c.joined-part.ensures));
     }
@@ -25,7 +25,7 @@ returns c =
     let below : c.size-2.result < lead =
     subst (λ n. c.size-2.result < c.size.result * n) (sym c.power_of_ten.ensures.value) (omega (arith, c.size-2.ensures.digits)) in
     let part : IsPart (joined _ (lead * unit) c.size-2.result) unit c.joined-part.result.digits c.joined-part.result.lost =
-    subst (λ (t : Bool). IsPart (joined t (lead * unit) c.size-2.result) unit c.joined-part.result.digits c.joined-part.result.lost) c.agree.ensures c.joined-part.ensures in
+    subst (λ (t : Bool). IsPart (joined t (lead * unit) c.size-2.result) unit c.joined-part.result.digits c.joined-part.result.lost) c.differ.ensures c.joined-part.ensures in
     c.round.ensures _ (far_cut _ unit c.joined-part.result.digits (c.places.result + 18) c.args.b.places k c.joined-part.result.lost c.power_of_ten-unit.ensures.value at_round part)
     ∙ ap (rounded c.args.direction) (far_value c.args.a.coefficient c.args.b.coefficient c.is_negative-negative.result c.is_negative.result
     c.size.result c.size-2.result c.power_of_ten.result unit c.args.a.places c.args.b.places k
