@@ -7,6 +7,7 @@ mod decimal;
 mod direction;
 mod laws;
 mod magnitude;
+mod order;
 mod powers;
 mod print;
 mod product;
@@ -22,5 +23,8 @@ pub use arithmetic::{
 };
 pub use byte_list::Bytes;
 pub use decimal::Dec;
-pub use laws::{down_is_greatest, one_canonical_form, up_is_least, worked_roundings, worked_texts};
+pub use laws::{
+    down_is_greatest, one_canonical_form, order_is_that_of_values, up_is_least, worked_roundings,
+    worked_texts,
+};
 pub use std::alloc::AllocError as OutOfMemory;
