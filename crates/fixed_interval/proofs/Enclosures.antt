@@ -51,9 +51,9 @@ sum_span_encloses a b s e q r h k =
     outward_encloses _ _ s e (q +ℚ r) (+ℚ-≤ℚ_both _ _ _ _ h.low k.low) (+ℚ-≤ℚ_both _ _ _ _ h.high k.high)
 
 -- ---- the answer of an operation
-pub outward_answer : {E : Type 0} (least greatest : ℚ) (lo hi : Option Bound) (r : Result Interval E) (error : E)
-    → lo ≡ down least → hi ≡ up greatest → r ≡ ok_or (from_ends lo hi) error → r ≡ ok_or (outward least greatest) error
-outward_answer least greatest lo hi r error e f h = h ∙ ap (λ o. ok_or o error) (outward-ends least greatest lo hi e f)
+pub outward_answer : {E : Type 0} (least greatest : ℚ) (lo hi : Option Bound) (o : Option Interval) (r : Result Interval E) (error : E)
+    → lo ≡ down least → hi ≡ up greatest → o ≡ from_ends lo hi → r ≡ ok_or o error → r ≡ ok_or (outward least greatest) error
+outward_answer least greatest lo hi o r error e f h k = k ∙ ap (λ o. ok_or o error) (h ∙ outward-ends least greatest lo hi e f)
 
 pub outward_in_order : (least greatest : ℚ) (lo hi : Option Bound) → lo ≡ down least → hi ≡ up greatest → least ≤ℚ greatest
     → ForSome (from_ends lo hi) IsOrdered
@@ -63,10 +63,10 @@ pub sum_in_order : (a b : Interval) → IsOrdered a → IsOrdered b
     → (value_of a.lo +ℚ value_of b.lo) ≤ℚ (value_of a.hi +ℚ value_of b.hi)
 sum_in_order a b h k = +ℚ-≤ℚ_both _ _ _ _ h.ordered k.ordered
 
-pub sum_answer_encloses : {E : Type 0} (a b : Interval) (r : Result Interval E) (error : E) → r ≡ ok_or (sum_span a b) error
-    → (q t : ℚ) → Encloses a q → Encloses b t → IfOk r (λ s. Encloses s (q +ℚ t))
-sum_answer_encloses a b r error e q t h k =
-    rw e (by (sum_span a b) refl) where
-      by : (o : Option Interval) → sum_span a b ≡ o → IfOk (ok_or o error) (λ s. Encloses s (q +ℚ t))
-      by None f = tt
-      by (Some s) f = sum_span_encloses a b s f q t h k
+-- what holds of each span that the rule gives holds of the one that was answered
+pub answer_has : {E : Type 0} (o : Option Interval) (r : Result Interval E) (error : E) → r ≡ ok_or o error
+    → (P : Interval → Type 0) → ((s : Interval) → o ≡ Some s → P s) → IfOk r P
+answer_has o r error e P h = rw e (by o refl) where
+  by : (t : Option Interval) → o ≡ t → IfOk (ok_or t error) P
+  by None f = tt
+  by (Some s) f = h s f

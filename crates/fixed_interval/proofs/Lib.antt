@@ -1,1 +1,9 @@
 pub mod Enclosures
+pub mod Least
+pub mod Hulls
+pub mod Inclusions
+pub mod Squares
+pub mod Raising
+pub mod Negatives
+pub mod Shares
+pub mod Halving

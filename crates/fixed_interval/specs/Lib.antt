@@ -1,1 +1,4 @@
 pub mod Interval
+pub mod Extremes
+pub mod Rules
+pub mod Powers

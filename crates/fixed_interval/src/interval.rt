@@ -1,11 +1,14 @@
-ghost use Rattle.std.specs.Prelude.{◌≡◌, ◌+◌, Result, Ok, Err, IfOk};
+ghost use Rattle.std.specs.Prelude.{◌≡◌, ◌+◌, Option, IfOk};
 ghost use Rattle.std.specs.Option.{ForSome, ok_or};
-ghost use Rattle.exact_fraction.specs.Number.{ℚ, ◌+ℚ◌};
+ghost use Rattle.exact_fraction.specs.Number.{ℚ, ◌+ℚ◌, neg_ℚ, ◌≤ℚ◌};
 ghost use Rattle.decimal18.specs.Bound.{value_of};
 ghost use Rattle.fixed_interval.specs.Interval.{Encloses, IsOrdered, from_ends, point_span, sum_span};
+ghost use Rattle.fixed_interval.specs.Rules.{zero_bound, difference_span, negative_span};
 
 use crate::counter::Steps;
-use decimal18::{Dec, add_down, add_up};
+use crate::bounds::whole_number;
+use crate::faults::Overflow;
+use decimal18::{Dec, add_down, add_up, sub_down, sub_up};
 use std::marker::Model;
 use std::sync::ledger::Ledger;
 
@@ -28,10 +31,6 @@ impl Model for Span {
     ghost inverse = { λ s. record { lo = s.lo; hi = s.hi } };
 }
 
-/// An end of a span would be below -(10^18 - 1) or above 10^18 - 1.
-#[derive(Clone, Copy, Debug, PartialEq, Eq)]
-pub struct Overflow;
-
 impl Span {
     /// The lower end.
     pub fn lo(&self) -> Dec
@@ -49,16 +48,33 @@ impl Span {
         self.hi
     }
 
+    // The span of two ends in order.
+    pub(crate) fn between(lo: Dec, hi: Dec) -> Span
+        requires ordered { value_of lo ≤ℚ value_of hi }
+        ensures { result ≡ record { lo = lo; hi = hi } }
+    {
+        Span { lo, hi }
+    }
+
     // The span of two rounded ends, where both are there.
-    fn from_ends(lo: Option<Dec>, hi: Option<Dec>) -> Result<Span, Overflow>
+    pub(crate) fn from_ends(lo: Option<Dec>, hi: Option<Dec>) -> Option<Span>
         requires { ForSome (from_ends lo hi) IsOrdered }
-        ensures { result ≡ ok_or (from_ends lo hi) (record {}) }
+        ensures { result ≡ from_ends lo hi }
     {
         match (lo, hi) {
-            (Some(lo), Some(hi)) => Ok(Span { lo, hi }),
-            _ => Err(Overflow),
+            (Some(lo), Some(hi)) => Some(Span { lo, hi }),
+            _ => None,
         }
     }
+}
+
+/// The span of the number 0. It does not tick.
+pub fn zero() -> Span
+    ensures span { result ≡ point_span zero_bound }
+    ensures encloses { Encloses result (value_of zero_bound) }
+{
+    let zero = whole_number(0);
+    Span { lo: zero, hi: zero }
 }
 
 /// The span of one number. It ticks once.
@@ -69,6 +85,17 @@ pub fn point<L: Ledger>(d: Dec, steps: &mut Steps<L>) -> Span
 {
     steps.tick();
     Span { lo: d, hi: d }
+}
+
+/// The span of the numbers from `lo` to `hi`. It ticks once.
+pub fn ends<L: Ledger>(lo: Dec, hi: Dec, steps: &mut Steps<L>) -> Span
+    requires ordered { value_of lo ≤ℚ value_of hi }
+    ensures span { result ≡ record { lo = lo; hi = hi } }
+    ensures encloses { (q : ℚ) → value_of lo ≤ℚ q → q ≤ℚ value_of hi → Encloses result q }
+    ensures ticks { steps.new ≡ steps.old + 1 }
+{
+    steps.tick();
+    Span { lo, hi }
 }
 
 /// The span of the sums of a number in `a` and a number in `b`, its ends rounded outwards. It ticks
@@ -83,5 +110,33 @@ pub fn add<L: Ledger>(a: &Span, b: &Span, steps: &mut Steps<L>) -> Result<Span, 
     ensures ticks { steps.new ≡ steps.old + 1 }
 {
     steps.tick();
-    Span::from_ends(add_down(a.lo, b.lo), add_up(a.hi, b.hi))
+    Span::from_ends(add_down(a.lo, b.lo), add_up(a.hi, b.hi)).ok_or(Overflow)
+}
+
+/// The span of the differences of a number in `a` and a number in `b`, its ends rounded outwards. It
+/// ticks once.
+///
+/// # Errors
+///
+/// [`Overflow`] exactly where an end is out of the range of bounds.
+pub fn sub<L: Ledger>(a: &Span, b: &Span, steps: &mut Steps<L>) -> Result<Span, Overflow>
+    ensures span { result ≡ ok_or (difference_span a.now b.now) (record {}) }
+    ensures encloses { (q r : ℚ) → Encloses a.now q → Encloses b.now r → IfOk result (λ s. Encloses s (q +ℚ neg_ℚ r)) }
+    ensures ticks { steps.new ≡ steps.old + 1 }
+{
+    steps.tick();
+    Span::from_ends(sub_down(a.lo, b.hi), sub_up(a.hi, b.lo)).ok_or(Overflow)
+}
+
+/// The span of the negatives of the numbers in `a`, which is exact. It ticks once.
+pub fn neg<L: Ledger>(a: &Span, steps: &mut Steps<L>) -> Span
+    ensures span { result ≡ negative_span a.now }
+    ensures encloses { (q : ℚ) → Encloses a.now q → Encloses result (neg_ℚ q) }
+    ensures ticks { steps.new ≡ steps.old + 1 }
+{
+    steps.tick();
+    Span {
+        lo: a.hi.negated(),
+        hi: a.lo.negated(),
+    }
 }

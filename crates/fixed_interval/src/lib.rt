@@ -2,10 +2,18 @@
 //! that make them.
 #![tactic(auto)]
 
+mod corners;
 mod counter;
+mod bounds;
+mod faults;
 mod interval;
+mod limits;
+mod products;
 #[cfg(test)]
 mod tests;
 
 pub use counter::Steps;
-pub use interval::{Overflow, Span, add, point};
+pub use faults::{ArithFault, Overflow, Truth};
+pub use interval::{Span, add, ends, neg, point, sub, zero};
+pub use limits::{at_most, cut, floor_at, ratio, share};
+pub use products::{div, mul, pow, sqr};

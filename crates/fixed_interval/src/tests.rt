@@ -1,6 +1,8 @@
 ghost use Rattle.std.specs.Prelude.{◌≡◌};
 
-use crate::{Overflow, Span, Steps, add, point};
+use crate::{
+    Overflow, Span, Steps, add, neg, point, sub, zero,
+};
 use decimal18::Dec;
 use std::marker::Brand;
 use std::mem::size_of;
@@ -10,8 +12,16 @@ use std::test::Fail;
 
 const MOST: i64 = 999_999_999_999_999_999;
 
-fn whole(n: i64) -> Result<Dec, &'static str> {
-    Dec::new(n, 0).ok_or("not a bound")
+// The coefficients and the places of the two ends.
+type Shown = (i64, u8, i64, u8);
+
+fn shown(span: &Span) -> Shown {
+    let (lo, hi) = (span.lo(), span.hi());
+    (lo.coefficient(), lo.places(), hi.coefficient(), hi.places())
+}
+
+fn decimal(coefficient: i64, places: u8) -> Result<Dec, &'static str> {
+    Dec::new(coefficient, places).ok_or("not a bound")
 }
 
 fn sums<L: Ledger>(rt: &impl Abort, blank: Blank) -> Result<(), Fail>
@@ -20,15 +30,16 @@ fn sums<L: Ledger>(rt: &impl Abort, blank: Blank) -> Result<(), Fail>
     requires one { L.parts ≡ 1 }
 {
     let mut steps: Steps<L> = Steps::new(blank);
-    let two = point(whole(2)?, &mut steps);
-    let three = point(whole(3)?, &mut steps);
-    let five: Option<Span> = add(&two, &three, &mut steps).ok();
-    assert_eq!(rt;
-        five.map(|sum| (sum.lo().coefficient(), sum.hi().coefficient())),
-        Some((5, 5))
-    );
-    let most = point(whole(MOST)?, &mut steps);
+    let two = point(decimal(2, 0)?, &mut steps);
+    let three = point(decimal(3, 0)?, &mut steps);
+    let sum: Option<Span> = add(&two, &three, &mut steps).ok();
+    assert_eq!(rt; sum.map(|s| shown(&s)), Some((5, 0, 5, 0)));
+    let difference: Option<Span> = sub(&two, &three, &mut steps).ok();
+    assert_eq!(rt; difference.map(|s| shown(&s)), Some((-1, 0, -1, 0)));
+    let most = point(decimal(MOST, 0)?, &mut steps);
     assert_eq!(rt; add(&most, &two, &mut steps), Err(Overflow));
+    assert_eq!(rt; shown(&neg(&two, &mut steps)), (-2, 0, -2, 0));
+    assert_eq!(rt; shown(&zero()), (0, 0, 0, 0));
     Ok(())
 }
 

@@ -1,0 +1,79 @@
+-- The span of squares is that of the two corners, and of 0 where that is in the span.
+use Rattle.std.specs.Prelude.{◌≡◌, Bool, true, false, cond, Some, ℤ, pos, neg_ℤ, ◌≤ℤ◌, refl}
+use Rattle.std.proofs.Common.{sym, ap, ap₂, ◌∙◌, arith}
+use Rattle.std.proofs.lemmas.Bool.{cond-true, cond-false}
+use Rattle.std.proofs.lemmas.Int.{ints}
+use Rattle.exact_fraction.specs.Number.{ℚ, of_ℤ, ◌*ℚ◌, ◌≤ℚ◌}
+use Rattle.exact_fraction.specs.NumberLaws.{≤ℚ_refl, ≤ℚ_trans, ≤ℚ_same, ≤ℚ_antisym, of_ℤ-≤ℚ}
+use Rattle.exact_fraction.proofs.OrderLaws.{≤ℚ_left, ≤ℚ_right, square-not_negative}
+use Rattle.decimal18.specs.Bound.{Bound, scaled, value_of, IsBound, IsCanonical}
+use Rattle.decimal18.specs.Down.{down, up, top, IsInRange}
+use Rattle.decimal18.proofs.Rounding.{some_down}
+use Rattle.decimal18.proofs.Upward.{some_up}
+use Rattle.decimal18.proofs.Values.{value-whole}
+use Rattle.fixed_interval.specs.Interval.{Interval, outward, point_span}
+use Rattle.fixed_interval.specs.Extremes.{min_ℚ, max_ℚ, hull}
+use Rattle.fixed_interval.specs.Rules.{zero_bound, one_bound, holds_zero, square_span}
+use Rattle.fixed_interval.proofs.Least.{min-≤_left, min-≤_right, ≤-min, max-≥_left, max-≥_right, max-≤}
+use Rattle.fixed_interval.proofs.Hulls.{outward-hull, outward_some, two_corners}
+
+-- a bound is rounded to itself
+pub down_of_bound : (b : Bound) → IsBound b → IsCanonical b → IsInRange (value_of b) → down (value_of b) ≡ Some b
+down_of_bound b h c r = some_down _ b r (record { bound = h; not_above = ≤ℚ_refl _; greatest = λ d _ k. k }) c
+
+pub up_of_bound : (b : Bound) → IsBound b → IsCanonical b → IsInRange (value_of b) → up (value_of b) ≡ Some b
+up_of_bound b h c r = some_up _ b r (record { bound = h; not_below = ≤ℚ_refl _; least = λ d _ k. k }) c
+
+-- ---- 0 and 1
+digit_in_range : (z : ℤ) → neg_ℤ top ≤ℤ z → z ≤ℤ top → IsInRange (value_of (scaled z 0))
+digit_in_range z h k = record {
+  low = ≤ℚ_right _ _ _ (sym (value-whole z)) (of_ℤ-≤ℚ (neg_ℤ top) z h);
+  high = ≤ℚ_left _ _ _ (value-whole z) (of_ℤ-≤ℚ z top k);
+}
+
+zero_down : down (value_of zero_bound) ≡ Some zero_bound
+zero_down =
+    down_of_bound zero_bound (record { digits = omega arith; most = omega arith }) (record { least = λ h. absurd (omega arith) })
+    (digit_in_range (pos 0) (omega (arith, ints)) (omega (arith, ints)))
+
+zero_up : up (value_of zero_bound) ≡ Some zero_bound
+zero_up =
+    up_of_bound zero_bound (record { digits = omega arith; most = omega arith }) (record { least = λ h. absurd (omega arith) })
+    (digit_in_range (pos 0) (omega (arith, ints)) (omega (arith, ints)))
+
+pub one_up : up (value_of one_bound) ≡ Some one_bound
+one_up =
+    up_of_bound one_bound (record { digits = omega arith; most = omega arith }) (record { least = λ h. absurd (omega arith) })
+    (digit_in_range (pos 1) (omega (arith, ints)) (omega (arith, ints)))
+
+outward_zero : outward (of_ℤ (pos 0)) (of_ℤ (pos 0)) ≡ Some (point_span zero_bound)
+outward_zero = rw (← value-whole (pos 0)) (outward_some _ _ _ _ zero_down zero_up)
+
+-- ---- squares
+lesser_end : (x y : ℚ) → y ≤ℚ x → min_ℚ x y ≡ y
+lesser_end x y h = ≤ℚ_antisym _ _ (min-≤_right x y) (≤-min y x y h (≤ℚ_refl y))
+
+greater_end : (x y : ℚ) → y ≤ℚ x → max_ℚ x y ≡ x
+greater_end x y h = ≤ℚ_antisym _ _ (max-≤ x x y (≤ℚ_refl x) h) (max-≥_left x y)
+
+pub square_without_zero : (a : Interval) → holds_zero a ≡ false
+    → square_span a ≡ hull (outward (value_of a.lo *ℚ value_of a.lo) (value_of a.lo *ℚ value_of a.lo))
+        (outward (value_of a.hi *ℚ value_of a.hi) (value_of a.hi *ℚ value_of a.hi))
+square_without_zero a e =
+    let low : ℚ = value_of a.lo *ℚ value_of a.lo in
+    let high : ℚ = value_of a.hi *ℚ value_of a.hi in
+    ap (λ t. outward t (max_ℚ low high)) (cond-false (holds_zero a) (of_ℤ (pos 0)) (min_ℚ low high) e) ∙ two_corners low high
+
+pub square_with_zero : (a : Interval) → holds_zero a ≡ true
+    → square_span a ≡ hull (hull (outward (value_of a.lo *ℚ value_of a.lo) (value_of a.lo *ℚ value_of a.lo))
+        (outward (value_of a.hi *ℚ value_of a.hi) (value_of a.hi *ℚ value_of a.hi))) (Some (point_span zero_bound))
+square_with_zero a e =
+    let low : ℚ = value_of a.lo *ℚ value_of a.lo in
+    let high : ℚ = value_of a.hi *ℚ value_of a.hi in
+    let zero : ℚ = of_ℤ (pos 0) in
+    let below : zero ≤ℚ min_ℚ low high = ≤-min zero low high (square-not_negative _) (square-not_negative _) in
+    let order : min_ℚ low high ≤ℚ max_ℚ low high = ≤ℚ_trans _ _ _ (min-≤_left low high) (max-≥_left low high) in
+    ap (λ t. outward t (max_ℚ low high)) (cond-true (holds_zero a) zero (min_ℚ low high) e)
+    ∙ ap₂ outward (sym (lesser_end (min_ℚ low high) zero below)) (sym (greater_end (max_ℚ low high) zero (≤ℚ_trans _ _ _ below order)))
+    ∙ outward-hull (min_ℚ low high) (max_ℚ low high) zero zero order (≤ℚ_refl zero)
+    ∙ ap₂ hull (two_corners low high) outward_zero

@@ -1,0 +1,10 @@
+use Rattle.std.proofs.Common.{◌∙◌}
+use Rattle.exact_fraction.specs.NumberLaws.{≤ℚ_refl}
+use Rattle.fixed_interval.proofs.Enclosures.{outward-ends, outward_in_order}
+use Rattle.fixed_interval.proofs.corners.product.Goals as goal
+
+pub from_ends-requires : goal.from_ends-requires
+from_ends-requires c = outward_in_order _ _ _ _ c.mul_down.ensures.exact c.mul_up.ensures.exact (≤ℚ_refl _)
+
+pub returns : goal.returns
+returns c = c.from_ends.ensures ∙ outward-ends _ _ _ _ c.mul_down.ensures.exact c.mul_up.ensures.exact
