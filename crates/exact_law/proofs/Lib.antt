@@ -1,0 +1,4 @@
+pub mod SumLaws
+pub mod Chain
+pub mod Rows
+pub mod ChainRule

@@ -1,0 +1,45 @@
+//! The exact law of propagation of uncertainty, as mathematics: what a model's values, sensitivities,
+//! variances and covariances, effective degrees of freedom, rounded numbers and statements of
+//! conformity are, in the terms of the GUM (JCGM 100:2008) and of ILAC-G8:09/2019.
+//!
+//! The definitions in `specs/` are over exact numbers, generic in the key of a quantity, and know
+//! nothing of texts, names, intervals or of the order in which code works. Each function below has an
+//! empty body, and its clauses are a theorem on the definitions. `same` is any test of two keys for
+//! equality.
+#![tactic(auto)]
+
+ghost use Rattle.std.specs.Prelude.{◌≡◌, Bool, true, Some, List};
+ghost use Rattle.exact_fraction.specs.Number.{ℚ};
+ghost use Rattle.exact_law.specs.Model.{Expression, Input, Formula, Row, IsSameTest, body_of, exact_value, exact_slope, unit, sweep, IsBackward, keys, once, IsOrderOf, IsByRow};
+
+/// Sharing changes nothing: in an order of rows of the model, the value of a formula row, whether it is
+/// defined and its derivative by every input are those of its own formula, at the values and derivatives
+/// of the quantities that it uses. So those of the expansion are found row by row.
+pub fn rows_give_the_expansion<K>()
+    ensures {
+        (same : K → K → Bool) → IsSameTest same → (model rows : List (Row K)) → IsOrderOf same model rows
+            → (m : K) (f : Expression K) → once same m (keys rows) ≡ true → body_of same model m ≡ Some (Formula f)
+            → IsByRow same model m f
+    }
+{}
+
+/// The chain rule through shared rows. In an order of rows of the model that holds `y`, the sweep from
+/// users to what they use, each adding its own sensitivity times its partial derivative, gives the
+/// derivative of the expansion of `y` by every input, also by one that it does not use. So does any
+/// solution `a` of the equations 'the sensitivity to n is 1 if n is y, plus, for each row, the
+/// sensitivity to the row times the row's partial derivative by n', in whatever way it is found.
+pub fn sweep_gives_the_derivatives<K>()
+    ensures of_sweep {
+        (same : K → K → Bool) → IsSameTest same → (model rows : List (Row K)) → IsOrderOf same model rows
+            → (y : K) → once same y (keys rows) ≡ true
+            → (i : K) (q : ℚ) → body_of same model i ≡ Some (Input q)
+            → exact_slope same model y i ≡ sweep same (exact_value same model) rows (λ n. unit same n y) i
+    }
+    ensures of_equations {
+        (same : K → K → Bool) → IsSameTest same → (model rows : List (Row K)) → IsOrderOf same model rows
+            → (y : K) → once same y (keys rows) ≡ true
+            → (a : K → ℚ) → IsBackward same (exact_value same model) a y rows
+            → (i : K) (q : ℚ) → body_of same model i ≡ Some (Input q)
+            → exact_slope same model y i ≡ a i
+    }
+{}
