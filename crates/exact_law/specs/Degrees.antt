@@ -41,15 +41,17 @@ effective variance shares =
     cond (is_zero_ℚ variance) NoDegrees
     (cond (any_counts shares) (FiniteDegrees (variance *ℚ variance /ℚ total weight shares)) InfiniteDegrees)
 
--- the shares of the groups in the variance of y
-unfoldable pub shares_of : {K : Type 0} → (K → K → Bool) → List (Row K) → List (Group K) → K → List Share
-shares_of same model [] y = []
-shares_of same model (g ∷ gs) y =
-    record { part = part_of same model g y; inverse_degrees = inverse_degrees g } ∷ shares_of same model gs y
+-- what the group brings to the variance of y
+unfoldable pub share_of : {K : Type 0} → (K → K → Bool) → List (Row K) → K → Group K → Share
+share_of same model y g = record { part = part_of same model g y; inverse_degrees = inverse_degrees g }
+
+unfoldable pub shares_of : {K : Type 0} → (K → K → Bool) → List (Row K) → K → List (Group K) → List Share
+shares_of same model y [] = []
+shares_of same model y (g ∷ gs) = share_of same model y g ∷ shares_of same model y gs
 
 -- the effective degrees of freedom of y
 unfoldable pub degrees_of : {K : Type 0} → (K → K → Bool) → List (Row K) → List (Group K) → K → Degrees
-degrees_of same model groups y = effective (law same model groups y y) (shares_of same model groups y)
+degrees_of same model groups y = effective (law same model groups y y) (shares_of same model y groups)
 
 -- ---- Table G.2 of JCGM 100:2008
 -- the fraction of the distribution in percent

@@ -99,3 +99,8 @@ stand_in same inputs (n ∷ ns) = once same n inputs && stand_in same inputs ns
 unfoldable pub AllGroups : {K : Type 0} → (Group K → Type 0) → List (Group K) → Type 0
 AllGroups P [] = Unit {0}
 AllGroups P (g ∷ gs) = P g × AllGroups P gs
+
+-- the groups are sound, and their members stand among the model's inputs
+pub record IsSoundFor {K : Type 0} (same : K → K → Bool) (inputs : List K) (g : Group K) : Type 0 where
+  pub sound : IsSound g
+  pub in_inputs : stand_in same inputs (members g) ≡ true

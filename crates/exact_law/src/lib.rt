@@ -9,8 +9,12 @@
 #![tactic(auto)]
 
 ghost use Rattle.std.specs.Prelude.{◌≡◌, Bool, true, Some, List};
-ghost use Rattle.exact_fraction.specs.Number.{ℚ};
+ghost use Rattle.std.specs.Prelude.{pos};
+ghost use Rattle.exact_fraction.specs.Number.{ℚ, of_ℤ, ◌*ℚ◌, inv_ℚ, ◌≤ℚ◌};
+ghost use Rattle.exact_law.specs.Sums.{total};
 ghost use Rattle.exact_law.specs.Model.{Expression, Input, Formula, Row, IsSameTest, body_of, exact_value, exact_slope, unit, sweep, IsBackward, keys, once, IsOrderOf, IsByRow};
+ghost use Rattle.exact_law.specs.Law.{Group, inputs_of, law, part_of, IsSound, IsSoundFor, AllGroups};
+ghost use Rattle.exact_law.specs.Degrees.{FiniteDegrees, degrees_of, inverse_degrees, share_of, counts};
 
 /// Sharing changes nothing: in an order of rows of the model, the value of a formula row, whether it is
 /// defined and its derivative by every input are those of its own formula, at the values and derivatives
@@ -41,5 +45,49 @@ pub fn sweep_gives_the_derivatives<K>()
             → (a : K → ℚ) → IsBackward same (exact_value same model) a y rows
             → (i : K) (q : ℚ) → body_of same model i ≡ Some (Input q)
             → exact_slope same model y i ≡ a i
+    }
+{}
+
+/// The variance of a quantity is the sum of the groups' parts, and neither a part nor a variance is
+/// negative. The covariance of two quantities does not depend on their order, and its square is at most
+/// the product of their variances. A group must be sound: no variance negative, a declared correlation
+/// from -1 to 1; of a table nothing is asked.
+pub fn law_is_the_sum_of_its_parts<K>()
+    ensures sum {
+        (same : K → K → Bool) → IsSameTest same → (model : List (Row K)) (groups : List (Group K))
+            → AllGroups (IsSoundFor same (inputs_of model)) groups
+            → (y : K) → law same model groups y y ≡ total (λ g. part_of same model g y) groups
+    }
+    ensures part_not_negative {
+        (same : K → K → Bool) (model : List (Row K)) (g : Group K) → IsSound g
+            → (y : K) → of_ℤ (pos 0) ≤ℚ part_of same model g y
+    }
+    ensures not_negative {
+        (same : K → K → Bool) → IsSameTest same → (model : List (Row K)) (groups : List (Group K))
+            → AllGroups (IsSoundFor same (inputs_of model)) groups
+            → (y : K) → of_ℤ (pos 0) ≤ℚ law same model groups y y
+    }
+    ensures symmetric {
+        (same : K → K → Bool) → IsSameTest same → (model : List (Row K)) (groups : List (Group K))
+            → AllGroups (IsSoundFor same (inputs_of model)) groups
+            → (y z : K) → law same model groups y z ≡ law same model groups z y
+    }
+    ensures schwarz {
+        (same : K → K → Bool) → IsSameTest same → (model : List (Row K)) (groups : List (Group K))
+            → AllGroups (IsSoundFor same (inputs_of model)) groups
+            → (y z : K) → law same model groups y z *ℚ law same model groups y z
+            ≤ℚ law same model groups y y *ℚ law same model groups z z
+    }
+{}
+
+/// Finite effective degrees of freedom are at least any bound `m` that is at most the degrees of each
+/// group whose degrees are finite and whose part is not 0, so at least the least of these degrees.
+pub fn degrees_are_at_least_the_least<K>()
+    ensures {
+        (same : K → K → Bool) → IsSameTest same → (model : List (Row K)) (groups : List (Group K))
+            → AllGroups (IsSoundFor same (inputs_of model)) groups
+            → (y : K) (m x : ℚ)
+            → AllGroups (λ g. counts (share_of same model y g) ≡ true → m ≤ℚ inv_ℚ (inverse_degrees g)) groups
+            → degrees_of same model groups y ≡ FiniteDegrees x → m ≤ℚ x
     }
 {}

@@ -1,0 +1,35 @@
+-- Lemmas on the order of the numbers and on sums of numbers that are not negative.
+use Rattle.std.specs.Prelude.{◌≡◌, ℕ, zero, suc, ◌≤◌, Bool, true, false, List, [], ◌∷◌, ℤ, pos, negsuc, ◌≤ℤ◌, ◌⊎◌, refl}
+use Rattle.std.proofs.Common.{sym, ◌∙◌, ap, ap₂, subst, arith, inl, inr}
+use Rattle.std.proofs.lemmas.Int.{ints}
+use std.Quotient.{/_rec}
+use Rattle.exact_fraction.specs.Fraction.{inverse}
+use Rattle.exact_fraction.specs.Number.{ℚ, of_ℤ, ◌+ℚ◌, ◌*ℚ◌, ◌/ℚ◌, neg_ℚ, inv_ℚ, is_zero_ℚ, is_at_most_ℚ, ◌≤ℚ◌}
+use Rattle.exact_fraction.specs.NumberLaws.{≤ℚ_refl, ≤ℚ_trans, ≤ℚ_same, ≤ℚ_antisym, ≤ℚ-turned, of_ℤ-≤ℚ}
+use Rattle.exact_fraction.proofs.Quotients.{is_zero_ℚ-≡}
+use Rattle.exact_fraction.proofs.OrderLaws.{≤ℚ_left, ≤ℚ_right, ≤ℚ_by, +ℚ-not_negative, *ℚ-not_negative, square-not_negative, inv_ℚ-not_negative}
+use Rattle.exact_fraction.proofs.Ring.{Whole, ◌:+◌, ◌:-◌, ◌:*◌, Minus, x0, x1, x2, x3, ring}
+use Rattle.exact_law.specs.Sums.{total, ◌-ℚ◌, ◌<ℚ◌}
+
+-- a number that is not negative, and its equals
+pub not_negative-same : (x y : ℚ) → x ≡ y → of_ℤ (pos 0) ≤ℚ y → of_ℤ (pos 0) ≤ℚ x
+not_negative-same x y e h = ≤ℚ_right _ y x (sym e) h
+
+pub whole-not_negative : (n : ℕ) → of_ℤ (pos 0) ≤ℚ of_ℤ (pos n)
+whole-not_negative n = of_ℤ-≤ℚ (pos 0) (pos n) (omega (arith, ints))
+
+zero-inv : inv_ℚ (of_ℤ (pos 0)) ≡ of_ℤ (pos 0)
+unfolding inv_ℚ /_rec inverse
+zero-inv = refl
+
+-- the inverse of what is not negative is not, also the one of 0, which means nothing
+pub inv-not_negative : (x : ℚ) → of_ℤ (pos 0) ≤ℚ x → of_ℤ (pos 0) ≤ℚ inv_ℚ x
+inv-not_negative x h = by (is_zero_ℚ x) refl where
+  by : (b : Bool) → is_zero_ℚ x ≡ b → of_ℤ (pos 0) ≤ℚ inv_ℚ x
+  by true e = ≤ℚ_same _ _ (sym (ap inv_ℚ (is_zero_ℚ-≡ x e) ∙ zero-inv))
+  by false e = inv_ℚ-not_negative x h e
+
+pub total-not_negative : {A : Type 0} (f : A → ℚ) (xs : List A) → ((x : A) → of_ℤ (pos 0) ≤ℚ f x) → of_ℤ (pos 0) ≤ℚ total f xs
+unfolding total
+total-not_negative f [] h = ≤ℚ_refl _
+total-not_negative f (x ∷ xs) h = +ℚ-not_negative _ _ (h x) (total-not_negative f xs h)
