@@ -6,3 +6,7 @@ pub mod Order
 pub mod Split
 pub mod Schwarz
 pub mod Welch
+pub mod RenamingLaws
+pub mod RuleLaws
+pub mod FactorLaws
+pub mod RoundingLaws

@@ -2,12 +2,13 @@
 use Rattle.std.specs.Prelude.{◌≡◌, ℕ, zero, suc, ◌≤◌, Bool, true, false, List, [], ◌∷◌, ℤ, pos, negsuc, ◌≤ℤ◌, ◌⊎◌, refl}
 use Rattle.std.proofs.Common.{sym, ◌∙◌, ap, ap₂, subst, arith, inl, inr}
 use Rattle.std.proofs.lemmas.Int.{ints}
+use Rattle.std.proofs.lemmas.Bool.{true≢false}
 use std.Quotient.{/_rec}
 use Rattle.exact_fraction.specs.Fraction.{inverse}
 use Rattle.exact_fraction.specs.Number.{ℚ, of_ℤ, ◌+ℚ◌, ◌*ℚ◌, ◌/ℚ◌, neg_ℚ, inv_ℚ, is_zero_ℚ, is_at_most_ℚ, ◌≤ℚ◌}
 use Rattle.exact_fraction.specs.NumberLaws.{≤ℚ_refl, ≤ℚ_trans, ≤ℚ_same, ≤ℚ_antisym, ≤ℚ-turned, of_ℤ-≤ℚ}
 use Rattle.exact_fraction.proofs.Quotients.{is_zero_ℚ-≡}
-use Rattle.exact_fraction.proofs.OrderLaws.{≤ℚ_left, ≤ℚ_right, ≤ℚ_by, +ℚ-not_negative, *ℚ-not_negative, square-not_negative, inv_ℚ-not_negative}
+use Rattle.exact_fraction.proofs.OrderLaws.{≤ℚ_left, ≤ℚ_right, ≤ℚ_by, *ℚ-≤ℚ_left, +ℚ-not_negative, *ℚ-not_negative, square-not_negative, inv_ℚ-not_negative}
 use Rattle.exact_fraction.proofs.Ring.{Whole, ◌:+◌, ◌:-◌, ◌:*◌, Minus, x0, x1, x2, x3, ring}
 use Rattle.exact_law.specs.Sums.{total, ◌-ℚ◌, ◌<ℚ◌}
 
@@ -33,3 +34,29 @@ pub total-not_negative : {A : Type 0} (f : A → ℚ) (xs : List A) → ((x : A)
 unfolding total
 total-not_negative f [] h = ≤ℚ_refl _
 total-not_negative f (x ∷ xs) h = +ℚ-not_negative _ _ (h x) (total-not_negative f xs h)
+
+-- ---- the strict order
+pub below_not : (x y : ℚ) → x <ℚ y → y ≤ℚ x → ⊥
+below_not x y h k = absurd (true≢false (sym k.holds ∙ h.not_above))
+
+pub below_by : (x y : ℚ) → (y ≤ℚ x → ⊥) → x <ℚ y
+below_by x y h = by (is_at_most_ℚ y x) refl where
+  by : (b : Bool) → is_at_most_ℚ y x ≡ b → x <ℚ y
+  by true e = absurd (h (record { holds = e }))
+  by false e = record { not_above = e }
+
+pub below_or_not : (x y : ℚ) → (x <ℚ y) ⊎ (y ≤ℚ x)
+below_or_not x y = by (is_at_most_ℚ y x) refl where
+  by : (b : Bool) → is_at_most_ℚ y x ≡ b → (x <ℚ y) ⊎ (y ≤ℚ x)
+  by true e = inr (record { holds = e })
+  by false e = inl (record { not_above = e })
+
+pub ≤ℚ-<ℚ : (x y z : ℚ) → x ≤ℚ y → y <ℚ z → x <ℚ z
+≤ℚ-<ℚ x y z h k = below_by x z (λ g. below_not y z k (≤ℚ_trans z x y g h))
+
+pub <ℚ-≤ℚ : (x y z : ℚ) → x <ℚ y → y ≤ℚ z → x <ℚ z
+<ℚ-≤ℚ x y z h k = below_by x z (λ g. below_not x y h (≤ℚ_trans y z x k g))
+
+-- ---- along a positive whole factor
+pub times-≤ℚ : (k : ℕ) (x y : ℚ) → x ≤ℚ y → of_ℤ (pos k) *ℚ x ≤ℚ of_ℤ (pos k) *ℚ y
+times-≤ℚ k x y h = *ℚ-≤ℚ_left x y (of_ℤ (pos k)) (whole-not_negative k) h

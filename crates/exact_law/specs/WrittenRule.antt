@@ -144,3 +144,9 @@ AllWithin [] [] = Unit {0}
 AllWithin [] (s ∷ ss) = ⊥
 AllWithin (d ∷ ds) [] = ⊥
 AllWithin (d ∷ ds) (s ∷ ss) = IsWithin d s.distance × IsWithin (d *ℚ d) s.square × AllWithin ds ss
+
+-- a settled answer is that of the test
+unfoldable pub Agrees : Answer → Bool → Type 0
+Agrees Yes b = b ≡ true
+Agrees No b = b ≡ false
+Agrees Unsettled b = Unit {0}
