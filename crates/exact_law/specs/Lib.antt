@@ -6,3 +6,4 @@ pub mod Degrees
 pub mod Rounding
 pub mod WrittenRule
 pub mod Renaming
+pub mod WorkedRows
