@@ -1,14 +1,13 @@
 -- The chain rule through shared rows. Its heart needs no induction: the derivatives forwards and the
 -- sensitivities backwards solve two systems of equations, of which one is the other's transpose, so
 -- that one double sum, read in two ways, ties them together.
-use Rattle.std.specs.Prelude.{◌≡◌, ℕ, suc, zero, ◌≤◌, Bool, true, false, cond, not, ◌&&◌, Option, Some, None, List, [], ◌∷◌, length, ℤ, pos, negsuc, refl}
-use Rattle.std.proofs.Common.{sym, ◌∙◌, ap, ap₂, subst, arith}
-use Rattle.std.proofs.Math.Path.{fun_ext}
+use Rattle.std.specs.Prelude.{◌≡◌, Bool, true, false, cond, not, ◌&&◌, List, [], ◌∷◌, pos, negsuc, refl}
+use Rattle.std.proofs.Common.{sym, ◌∙◌, ap, ap₂}
 use Rattle.std.proofs.lemmas.Bool.{true≢false}
-use Rattle.exact_fraction.specs.Number.{ℚ, of_ℤ, ◌+ℚ◌, ◌*ℚ◌, ◌/ℚ◌, neg_ℚ, inv_ℚ, is_zero_ℚ}
-use Rattle.exact_fraction.proofs.Ring.{Whole, ◌:+◌, ◌:-◌, ◌:*◌, Minus, x0, x1, x2, x3, x4, ring}
-use Rattle.exact_law.specs.Sums.{total, power, whole_power, ◌-ℚ◌}
-use Rattle.exact_law.specs.Model.{Expression, Num, Key, Neg, Add, Sub, Mul, Div, Pow, value, power_slope, slope, has_power, is_defined, replaced, Body, Input, Formula, Row, IsSameTest, body_of, estimate_in, estimate, replaced_body, expansion, expanded, unit, exact_value, exact_slope, has_value, body_partial, partial, brought, IsBackward, keys, absent, once, uses_only, body_uses_only, is_order, AreOf}
+use Rattle.exact_fraction.specs.Number.{ℚ, of_ℤ, ◌+ℚ◌, ◌*ℚ◌, neg_ℚ, inv_ℚ}
+use Rattle.exact_fraction.proofs.Ring.{Whole, ◌:+◌, ◌:*◌, Minus, x0, x1, x2, ring}
+use Rattle.exact_law.specs.Sums.{total, ◌-ℚ◌}
+use Rattle.exact_law.specs.Model.{Expression, Num, Key, Neg, Add, Sub, Mul, Div, Pow, value, power_slope, slope, is_defined, replaced, Row, IsSameTest, unit, partial, brought, IsBackward, keys, absent, once, uses_only}
 use Rattle.exact_law.proofs.SumLaws.{and_left, and_right, total-same, total-zero, total-plus, total-times, total-times_right, total-swap}
 
 -- ---- value and derivative of an expression in which keys are replaced: row by row is the expansion

@@ -1,14 +1,13 @@
 -- Values, derivatives and sensitivities row by row are those of the expansion.
-use Rattle.std.specs.Prelude.{◌≡◌, ℕ, suc, zero, Bool, true, false, cond, not, ◌&&◌, Option, Some, None, List, [], ◌∷◌, length, ℤ, pos, refl}
+use Rattle.std.specs.Prelude.{◌≡◌, Bool, true, false, cond, not, ◌&&◌, Some, List, [], ◌∷◌, pos, refl}
 use Rattle.std.proofs.Common.{sym, ◌∙◌, ap, ap₂, subst}
 use Rattle.std.proofs.lemmas.Bool.{true≢false}
-use Rattle.exact_fraction.specs.Number.{ℚ, of_ℤ, ◌+ℚ◌, ◌*ℚ◌}
-use Rattle.exact_fraction.proofs.Ring.{Whole, ◌:+◌, ◌:-◌, ◌:*◌, x0, x1, ring}
-use Rattle.exact_law.specs.Sums.{total}
-use Rattle.exact_law.specs.Model.{Expression, Num, Key, Neg, Add, Sub, Mul, Div, Pow, value, slope, is_defined, replaced, Body, Input, Formula, Row, IsSameTest, body_of, estimate_in, estimate, replaced_body, expanded, unit, exact_value, exact_slope, has_value, body_partial, partial, sweep, brought, IsBackward, keys, absent, once, uses_only, body_uses_only, is_order, AreOf}
+use Rattle.exact_fraction.specs.Number.{ℚ, of_ℤ, ◌+ℚ◌}
+use Rattle.exact_fraction.proofs.Ring.{Whole, ◌:+◌, x0, ring}
+use Rattle.exact_law.specs.Model.{Expression, Num, Key, Neg, Add, Sub, Mul, Div, Pow, value, slope, is_defined, replaced, Body, Input, Formula, Row, IsSameTest, body_of, estimate, replaced_body, expanded, unit, exact_value, exact_slope, has_value, body_partial, partial, sweep, IsBackward, keys, absent, once, uses_only, body_uses_only, is_order, AreOf}
 use Rattle.exact_law.proofs.SumLaws.{and_left, and_right}
 use Rattle.exact_law.proofs.Chain.{value-replaced, slope-replaced, is_defined-replaced, along, along-zero, along-once, along-absent, slope-along, AllRows, AllRows-map, IsForward, forward_backward}
-use Rattle.exact_law.proofs.Rows.{absent_once, not_true, unused_key, brought-absent, sweep-brought, order-absent, order-uses, order-rest, of_key, IsExpanded, IsExpanded-rows}
+use Rattle.exact_law.proofs.Rows.{unused_key, brought-absent, sweep-brought, order-absent, order-uses, order-rest, of_key, IsExpanded, IsExpanded-rows}
 
 -- ---- at a row of the order
 replaced_body-row : {K : Type 0} (same : K → K → Bool) (model : List (Row K)) (s : K → Expression K) (n : K) (b : Body K)
@@ -91,7 +90,7 @@ order-uses_all same law [] o = tt
 order-uses_all same law (r ∷ rs) o = (
   body_uses_more same law r.key (keys rs) (order-absent same r rs o) r.body (order-uses same r rs o),
   AllRows-map _ _ (λ s. body_uses_more same law r.key (keys rs) (order-absent same r rs o) s.body) rs
-  (order-uses_all same law rs (order-rest same r rs o)),
+      (order-uses_all same law rs (order-rest same r rs o)),
 )
 
 same-sym : {K : Type 0} (same : K → K → Bool) → IsSameTest same → (n m : K) → unit same n m ≡ unit same m n
@@ -155,11 +154,11 @@ unfolding once absent keys
 once_or_absent same law i [] o h = refl
 once_or_absent same law i (r ∷ rs) o h =
     by (same r.key i) refl h (once_or_absent same law i rs (order-rest same r rs o)) where
-  by : (b : Bool) → same r.key i ≡ b → cond b (absent same i (keys rs)) (once same i (keys rs)) ≡ false
-      → (once same i (keys rs) ≡ false → absent same i (keys rs) ≡ true) → (not b && absent same i (keys rs)) ≡ true
-  by true e h ih =
-      absurd (true≢false (sym (subst (λ k. absent same k (keys rs) ≡ true) (law.sound r.key i e) (order-absent same r rs o)) ∙ h))
-  by false e h ih = ih h
+      by : (b : Bool) → same r.key i ≡ b → cond b (absent same i (keys rs)) (once same i (keys rs)) ≡ false
+          → (once same i (keys rs) ≡ false → absent same i (keys rs) ≡ true) → (not b && absent same i (keys rs)) ≡ true
+      by true e h ih =
+          absurd (true≢false (sym (subst (λ k. absent same k (keys rs) ≡ true) (law.sound r.key i e) (order-absent same r rs o)) ∙ h))
+      by false e h ih = ih h
 
 -- whatever solves the backward equations has the derivatives of the expansion
 pub gradient : {K : Type 0} (same : K → K → Bool) → IsSameTest same → (model rows : List (Row K))
@@ -170,14 +169,14 @@ gradient same law model rows m o y y1 a b i q h =
     forward_backward same law (exact_value same model) a (λ n. exact_slope same model n i) y i rows
     (forward same law model rows m o i q h) b y1
     ∙ by (once same i (keys rows)) refl where
-  by : (c : Bool) → once same i (keys rows) ≡ c → along a (λ n. unit same n i) (keys rows) ≡ a i
-  by true e = along-once same law a i (keys rows) e
-  by false e =
-      along-absent same a i (keys rows) (once_or_absent same law i rows o e)
-      ∙ ring [] (Whole (pos 0)) (Whole (pos 0) :+ Whole (pos 0)) refl
-      ∙ sym (ap₂ ◌+ℚ◌ (unused_key same law i y (keys rows) y1 (once_or_absent same law i rows o e))
-      (brought-absent same law (exact_value same model) a i rows o (once_or_absent same law i rows o e)))
-      ∙ sym (b.equation i)
+      by : (c : Bool) → once same i (keys rows) ≡ c → along a (λ n. unit same n i) (keys rows) ≡ a i
+      by true e = along-once same law a i (keys rows) e
+      by false e =
+          along-absent same a i (keys rows) (once_or_absent same law i rows o e)
+          ∙ ring [] (Whole (pos 0)) (Whole (pos 0) :+ Whole (pos 0)) refl
+          ∙ sym (ap₂ ◌+ℚ◌ (unused_key same law i y (keys rows) y1 (once_or_absent same law i rows o e))
+          (brought-absent same law (exact_value same model) a i rows o (once_or_absent same law i rows o e)))
+          ∙ sym (b.equation i)
 
 -- and the sweep does
 pub sweep-backward : {K : Type 0} (same : K → K → Bool) → IsSameTest same → (v : K → ℚ) (rows : List (Row K)) (y : K)

@@ -1,12 +1,12 @@
 -- The factor of Table G.2 falls as the degrees of freedom grow.
-use Rattle.std.specs.Prelude.{◌≡◌, ℕ, ◌≤◌, Bool, true, false, cond, ◌&&◌, nat_le, List, [], ◌∷◌, ℤ, pos, ◌≤ℤ◌, refl}
-use Rattle.std.proofs.Common.{sym, ◌∙◌, ap, ap₂, arith}
+use Rattle.std.specs.Prelude.{◌≡◌, ℕ, ◌≤◌, Bool, true, false, cond, ◌&&◌, nat_le, List, [], ◌∷◌, pos, refl}
+use Rattle.std.proofs.Common.{sym, ◌∙◌, arith}
 use Rattle.std.proofs.lemmas.Bool.{true≢false}
 use Rattle.std.proofs.lemmas.Int.{ints}
 use Rattle.std.proofs.lemmas.Bool.Decides.{nat_tests}
-use Rattle.exact_fraction.specs.Number.{ℚ, of_ℤ, ◌*ℚ◌, ◌/ℚ◌, inv_ℚ, is_at_most_ℚ, ◌≤ℚ◌}
-use Rattle.exact_fraction.specs.NumberLaws.{≤ℚ_refl, ≤ℚ_trans, *ℚ-≤ℚ, of_ℤ-≤ℚ}
-use Rattle.exact_law.specs.Degrees.{Level, Percent95, Percent9545, Percent99, Factors, row, thousandths, first_row, later_rows, infinite_row, factor_in, row_at, row_of, factor, Degrees, NoDegrees, InfiniteDegrees, FiniteDegrees}
+use Rattle.exact_fraction.specs.Number.{ℚ, of_ℤ, inv_ℚ, is_at_most_ℚ, ◌≤ℚ◌}
+use Rattle.exact_fraction.specs.NumberLaws.{≤ℚ_trans, *ℚ-≤ℚ, of_ℤ-≤ℚ}
+use Rattle.exact_law.specs.Degrees.{Level, Percent95, Percent9545, Percent99, Factors, row, thousandths, first_row, later_rows, infinite_row, factor_in, row_at, row_of, factor, InfiniteDegrees, FiniteDegrees}
 use Rattle.exact_law.proofs.SumLaws.{and_left, and_right}
 use Rattle.exact_law.proofs.Order.{whole-not_negative, inv-not_negative}
 
@@ -71,13 +71,13 @@ row_at-falls n level x y l f [] h = refl-≤ _
 row_at-falls n level x y l f (g ∷ gs) h =
     by (is_at_most_ℚ (of_ℤ (pos g.degrees)) x) (is_at_most_ℚ (of_ℤ (pos g.degrees)) y) refl refl
     (row_at-falls n level x y l g gs (falls-rest n level f g gs h)) where
-  by : (b c : Bool) → is_at_most_ℚ (of_ℤ (pos g.degrees)) x ≡ b → is_at_most_ℚ (of_ℤ (pos g.degrees)) y ≡ c
-      → thousandths level (row_at y g gs) ≤ thousandths level (row_at x g gs)
-      → thousandths level (cond c (row_at y g gs) f) ≤ thousandths level (cond b (row_at x g gs) f)
-  by true true d e k = k
-  by true false d e k = absurd (true≢false (sym (≤ℚ_trans (of_ℤ (pos g.degrees)) x y (record { holds = d }) l).holds ∙ e))
-  by false true d e k = below _ _ _ (row_at-high n level y g gs (falls-rest n level f g gs h)) (falls-next n level f g gs h)
-  by false false d e k = refl-≤ _
+      by : (b c : Bool) → is_at_most_ℚ (of_ℤ (pos g.degrees)) x ≡ b → is_at_most_ℚ (of_ℤ (pos g.degrees)) y ≡ c
+          → thousandths level (row_at y g gs) ≤ thousandths level (row_at x g gs)
+          → thousandths level (cond c (row_at y g gs) f) ≤ thousandths level (cond b (row_at x g gs) f)
+      by true true d e k = k
+      by true false d e k = absurd (true≢false (sym (≤ℚ_trans (of_ℤ (pos g.degrees)) x y (record { holds = d }) l).holds ∙ e))
+      by false true d e k = below _ _ _ (row_at-high n level y g gs (falls-rest n level f g gs h)) (falls-next n level f g gs h)
+      by false false d e k = refl-≤ _
 
 factor_in-≤ : (level : Level) (f g : Factors) → thousandths level f ≤ thousandths level g → factor_in level f ≤ℚ factor_in level g
 unfolding factor_in

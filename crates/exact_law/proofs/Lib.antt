@@ -10,3 +10,5 @@ pub mod RenamingLaws
 pub mod RuleLaws
 pub mod FactorLaws
 pub mod RoundingLaws
+pub mod Digits
+pub mod Nearest

@@ -1,16 +1,15 @@
 -- Lemmas on the order of the numbers and on sums of numbers that are not negative.
-use Rattle.std.specs.Prelude.{◌≡◌, ℕ, zero, suc, ◌≤◌, Bool, true, false, List, [], ◌∷◌, ℤ, pos, negsuc, ◌≤ℤ◌, ◌⊎◌, refl}
-use Rattle.std.proofs.Common.{sym, ◌∙◌, ap, ap₂, subst, arith, inl, inr}
+use Rattle.std.specs.Prelude.{◌≡◌, ℕ, Bool, true, false, List, [], ◌∷◌, pos, ◌⊎◌, refl}
+use Rattle.std.proofs.Common.{sym, ◌∙◌, ap, arith, inl, inr}
 use Rattle.std.proofs.lemmas.Int.{ints}
 use Rattle.std.proofs.lemmas.Bool.{true≢false}
 use std.Quotient.{/_rec}
 use Rattle.exact_fraction.specs.Fraction.{inverse}
-use Rattle.exact_fraction.specs.Number.{ℚ, of_ℤ, ◌+ℚ◌, ◌*ℚ◌, ◌/ℚ◌, neg_ℚ, inv_ℚ, is_zero_ℚ, is_at_most_ℚ, ◌≤ℚ◌}
-use Rattle.exact_fraction.specs.NumberLaws.{≤ℚ_refl, ≤ℚ_trans, ≤ℚ_same, ≤ℚ_antisym, ≤ℚ-turned, of_ℤ-≤ℚ}
+use Rattle.exact_fraction.specs.Number.{ℚ, of_ℤ, ◌*ℚ◌, inv_ℚ, is_zero_ℚ, is_at_most_ℚ, ◌≤ℚ◌}
+use Rattle.exact_fraction.specs.NumberLaws.{≤ℚ_refl, ≤ℚ_trans, ≤ℚ_same, ≤ℚ-turned, of_ℤ-≤ℚ}
 use Rattle.exact_fraction.proofs.Quotients.{is_zero_ℚ-≡}
-use Rattle.exact_fraction.proofs.OrderLaws.{≤ℚ_left, ≤ℚ_right, ≤ℚ_by, *ℚ-≤ℚ_left, +ℚ-not_negative, *ℚ-not_negative, square-not_negative, inv_ℚ-not_negative}
-use Rattle.exact_fraction.proofs.Ring.{Whole, ◌:+◌, ◌:-◌, ◌:*◌, Minus, x0, x1, x2, x3, ring}
-use Rattle.exact_law.specs.Sums.{total, ◌-ℚ◌, ◌<ℚ◌}
+use Rattle.exact_fraction.proofs.OrderLaws.{≤ℚ_right, *ℚ-≤ℚ_left, +ℚ-not_negative, inv_ℚ-not_negative}
+use Rattle.exact_law.specs.Sums.{total, ◌<ℚ◌}
 
 -- a number that is not negative, and its equals
 pub not_negative-same : (x y : ℚ) → x ≡ y → of_ℤ (pos 0) ≤ℚ y → of_ℤ (pos 0) ≤ℚ x
@@ -60,3 +59,6 @@ pub <ℚ-≤ℚ : (x y z : ℚ) → x <ℚ y → y ≤ℚ z → x <ℚ z
 -- ---- along a positive whole factor
 pub times-≤ℚ : (k : ℕ) (x y : ℚ) → x ≤ℚ y → of_ℤ (pos k) *ℚ x ≤ℚ of_ℤ (pos k) *ℚ y
 times-≤ℚ k x y h = *ℚ-≤ℚ_left x y (of_ℤ (pos k)) (whole-not_negative k) h
+
+pub below_at_most : (x y : ℚ) → x <ℚ y → x ≤ℚ y
+below_at_most x y h = ≤ℚ-turned y x h.not_above

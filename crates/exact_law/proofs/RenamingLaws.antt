@@ -1,6 +1,6 @@
 -- What a renaming of the keys that keeps them apart does not change.
-use Rattle.std.specs.Prelude.{◌≡◌, ℕ, zero, suc, Bool, true, false, cond, Option, Some, None, List, [], ◌∷◌, length, map, ℤ, pos, refl}
-use Rattle.std.proofs.Common.{sym, ◌∙◌, ap, ap₂}
+use Rattle.std.specs.Prelude.{◌≡◌, ℕ, zero, suc, Bool, true, false, cond, Option, Some, None, List, [], ◌∷◌, length, map, pos, refl}
+use Rattle.std.proofs.Common.{◌∙◌, ap, ap₂}
 use Rattle.std.proofs.Math.Path.{fun_ext}
 use Rattle.exact_fraction.specs.Number.{ℚ, of_ℤ, ◌+ℚ◌, ◌*ℚ◌}
 use Rattle.exact_law.specs.Sums.{total}
@@ -75,10 +75,10 @@ body_of-renamed same same' rename k [] n = refl
 body_of-renamed same same' rename k (r ∷ rs) n =
     ap₂ (λ b o. cond b (Some (renamed_body rename r.body)) o) (k.apart r.key n) (body_of-renamed same same' rename k rs n)
     ∙ by (same r.key n) where
-  by : (b : Bool) → cond b (Some (renamed_body rename r.body)) (renamed_option rename (body_of same rs n))
-      ≡ renamed_option rename (cond b (Some r.body) (body_of same rs n))
-  by true = refl
-  by false = refl
+      by : (b : Bool) → cond b (Some (renamed_body rename r.body)) (renamed_option rename (body_of same rs n))
+          ≡ renamed_option rename (cond b (Some r.body) (body_of same rs n))
+      by true = refl
+      by false = refl
 
 replaced_body-renamed : {K L : Type 0} (rename : K → L) (s : K → Expression K) (s' : L → Expression L)
     → ((n : K) → s' (rename n) ≡ renamed rename (s n)) → (n : K) (b : Option (Body K))

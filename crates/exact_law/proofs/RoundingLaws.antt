@@ -1,19 +1,19 @@
 -- Rounded numbers are monotone: where both ends of an interval have the same, so has all between them.
-use Rattle.std.specs.Prelude.{◌≡◌, ℕ, zero, suc, ◌+◌, ◌-◌, ◌*◌, ◌≤◌, ◌<◌, ◌==◌, Bool, true, false, cond, List, [], ◌∷◌, ℤ, pos, negsuc, ◌+ℤ◌, ◌≤ℤ◌, ◌<ℤ◌, ◌⊎◌, neg_ℤ, refl}
-use Rattle.std.proofs.Common.{sym, ◌∙◌, ap, ap₂, subst, arith, inl, inr, mul-le-mul}
+use Rattle.std.specs.Prelude.{◌≡◌, ℕ, zero, suc, ◌+◌, ◌-◌, ◌*◌, ◌≤◌, ◌<◌, [], ◌∷◌, ℤ, pos, negsuc, ◌+ℤ◌, ◌≤ℤ◌, ◌⊎◌, neg_ℤ, refl}
+use Rattle.std.proofs.Common.{sym, ◌∙◌, ap, subst, arith, inl, inr, mul-le-mul}
 use Rattle.std.proofs.lemmas.Int.{ints}
 use Rattle.std.proofs.lemmas.Bool.Decides.{nat_tests}
 use Rattle.std.proofs.lemmas.Bool.{cases_order}
 use std.Quotient.{/_rec, /_rec₂}
 use Rattle.exact_fraction.specs.Fraction.{◌⊗◌, inverse}
-use Rattle.exact_fraction.specs.Number.{ℚ, of_ℤ, ◌+ℚ◌, ◌*ℚ◌, ◌/ℚ◌, neg_ℚ, inv_ℚ, is_zero_ℚ, ◌≤ℚ◌, floor_ℚ}
-use Rattle.exact_fraction.specs.NumberLaws.{≤ℚ_refl, ≤ℚ_same, ≤ℚ_trans, *ℚ-≤ℚ, +ℚ-≤ℚ, *ℚ-inv, of_ℤ-≤ℚ, ≤floor_ℚ}
+use Rattle.exact_fraction.specs.Number.{ℚ, of_ℤ, ◌+ℚ◌, ◌*ℚ◌, ◌/ℚ◌, inv_ℚ, is_zero_ℚ, ◌≤ℚ◌, floor_ℚ}
+use Rattle.exact_fraction.specs.NumberLaws.{≤ℚ_same, ≤ℚ_trans, *ℚ-≤ℚ, +ℚ-≤ℚ, *ℚ-inv, of_ℤ-≤ℚ, ≤floor_ℚ}
 use Rattle.exact_fraction.specs.Whole.{le_both}
-use Rattle.exact_fraction.proofs.OrderLaws.{≤ℚ_left, ≤ℚ_right, ≤ℚ_by, *ℚ-≤ℚ_left, +ℚ-not_negative, *ℚ-not_negative, square-not_negative, floor_ℚ-not_above}
-use Rattle.exact_fraction.proofs.Ring.{Whole, ◌:+◌, ◌:-◌, ◌:*◌, Minus, x0, x1, x2, x3, ring}
-use Rattle.exact_law.specs.Sums.{power, ◌<ℚ◌}
+use Rattle.exact_fraction.proofs.OrderLaws.{≤ℚ_left, ≤ℚ_right, ≤ℚ_by, *ℚ-not_negative, square-not_negative, floor_ℚ-not_above}
+use Rattle.exact_fraction.proofs.Ring.{Whole, ◌:+◌, ◌:*◌, x0, x1, x2, ring}
+use Rattle.exact_law.specs.Sums.{power}
 use Rattle.exact_law.specs.Rounding.{ten_to, at_place, least_root, scaled_square, IsTwoDigits, IsHundredths}
-use Rattle.exact_law.proofs.Order.{not_negative-same, whole-not_negative, inv-not_negative, below_not, below_by, ≤ℚ-<ℚ, <ℚ-≤ℚ, times-≤ℚ}
+use Rattle.exact_law.proofs.Order.{whole-not_negative, inv-not_negative, below_not, ≤ℚ-<ℚ, times-≤ℚ}
 
 -- ---- powers of ten
 power-not_negative : (x : ℚ) (n : ℕ) → of_ℤ (pos 0) ≤ℚ x → of_ℤ (pos 0) ≤ℚ power x n
@@ -85,19 +85,19 @@ ten_to-next (negsuc zero) = sym (times_ten (of_ℤ (pos 1)))
 ten_to-next (negsuc (suc n)) = ap ten_to (next_negative n) ∙ sym (times_ten (power (inv_ℚ (of_ℤ (pos 10))) (suc n)))
 
 -- a square of the next place
-next_square : (r : ℕ) (e : ℤ) → scaled_square r (e +ℤ pos 1) ≡ of_ℤ (pos 100) *ℚ scaled_square r e
+pub next_square : (r : ℕ) (e : ℤ) → scaled_square r (e +ℤ pos 1) ≡ of_ℤ (pos 100) *ℚ scaled_square r e
 unfolding scaled_square
 next_square r e =
     ap (λ t. of_ℤ (pos (r * r)) *ℚ (t *ℚ t)) (ten_to-next e)
     ∙ ring (of_ℤ (pos (r * r)) ∷ ten_to e ∷ []) (x0 :* ((x1 :* Whole (pos 10)) :* (x1 :* Whole (pos 10)))) (Whole (pos 100) :* (x0 :* (x1 :* x1))) refl
 
-ten_times : (e : ℤ) → scaled_square 199 (e +ℤ pos 1) ≡ scaled_square 1990 e
+pub ten_times : (e : ℤ) → scaled_square 199 (e +ℤ pos 1) ≡ scaled_square 1990 e
 unfolding scaled_square
 ten_times e =
     ap (λ t. of_ℤ (pos (199 * 199)) *ℚ (t *ℚ t)) (ten_to-next e)
     ∙ ring (ten_to e ∷ []) (Whole (pos 39601) :* ((x0 :* Whole (pos 10)) :* (x0 :* Whole (pos 10)))) (Whole (pos 3960100) :* (x0 :* x0)) refl
 
-scaled_square-not_negative : (r : ℕ) (e : ℤ) → of_ℤ (pos 0) ≤ℚ scaled_square r e
+pub scaled_square-not_negative : (r : ℕ) (e : ℤ) → of_ℤ (pos 0) ≤ℚ scaled_square r e
 unfolding scaled_square
 scaled_square-not_negative r e = *ℚ-not_negative _ _ (whole-not_negative (r * r)) (square-not_negative (ten_to e))
 
@@ -112,8 +112,8 @@ scaled_square-grows r e (suc k) =
     (≤ℚ_by _ _ (of_ℤ (pos 99) *ℚ scaled_square r (e +ℤ pos k))
     (ring (scaled_square r (e +ℤ pos k) ∷ []) (x0 :+ Whole (pos 99) :* x0) (Whole (pos 100) :* x0) refl)
     (*ℚ-not_negative _ _ (whole-not_negative 99) (scaled_square-not_negative r (e +ℤ pos k))))) where
-  one_more : (e : ℤ) (k : ℕ) → ((e +ℤ pos k) +ℤ pos 1) ≡ (e +ℤ pos (suc k))
-  one_more e k = omega (arith, ints)
+      one_more : (e : ℤ) (k : ℕ) → ((e +ℤ pos k) +ℤ pos 1) ≡ (e +ℤ pos (suc k))
+      one_more e k = omega (arith, ints)
 
 least_root-low : (m : ℕ) → 10 ≤ m → 199 ≤ least_root m
 least_root-low m h = grind (arith, nat_tests)

@@ -1,15 +1,14 @@
 -- Orders of rows: the sweep solves the backward equations, the values and derivatives of the expansion
 -- solve the forward ones, and an order is no longer than its model.
-use Rattle.std.specs.Prelude.{◌≡◌, ℕ, suc, zero, ◌+◌, ◌≤◌, Bool, true, false, cond, not, ◌&&◌, Option, Some, None, List, [], ◌∷◌, length, ℤ, pos, refl}
+use Rattle.std.specs.Prelude.{◌≡◌, ℕ, suc, zero, ◌≤◌, Bool, true, false, cond, not, Some, List, [], ◌∷◌, length, pos, refl}
 use Rattle.std.proofs.Common.{sym, ◌∙◌, ap, ap₂, subst, arith}
-use Rattle.std.proofs.Math.Path.{fun_ext}
 use Rattle.std.proofs.lemmas.Bool.{true≢false}
-use Rattle.exact_fraction.specs.Number.{ℚ, of_ℤ, ◌+ℚ◌, ◌*ℚ◌, ◌/ℚ◌, neg_ℚ, inv_ℚ, is_zero_ℚ}
-use Rattle.exact_fraction.proofs.Ring.{Whole, ◌:+◌, ◌:-◌, ◌:*◌, Minus, x0, x1, x2, x3, x4, ring}
+use Rattle.exact_fraction.specs.Number.{ℚ, of_ℤ, ◌+ℚ◌, ◌*ℚ◌, ◌/ℚ◌, neg_ℚ, inv_ℚ}
+use Rattle.exact_fraction.proofs.Ring.{Whole, ◌:+◌, ◌:-◌, ◌:*◌, Minus, x0, x1, x2, ring}
 use Rattle.exact_law.specs.Sums.{total, ◌-ℚ◌}
-use Rattle.exact_law.specs.Model.{Expression, Num, Key, Neg, Add, Sub, Mul, Div, Pow, value, power_slope, slope, is_defined, replaced, Body, Input, Formula, Row, IsSameTest, body_of, estimate_in, estimate, replaced_body, expansion, expanded, unit, exact_value, exact_slope, has_value, body_partial, partial, sweep, brought, IsBackward, keys, absent, once, uses_only, body_uses_only, is_order, AreOf}
-use Rattle.exact_law.proofs.SumLaws.{and_left, and_right, total-same, total-zero, total-plus}
-use Rattle.exact_law.proofs.Chain.{value-replaced, slope-replaced, is_defined-replaced, along, along-once, along-absent, slope-along, AllRows, AllRows-map, IsForward, forward_backward}
+use Rattle.exact_law.specs.Model.{Expression, Num, Key, Neg, Add, Sub, Mul, Div, Pow, value, power_slope, slope, replaced, Body, Input, Formula, Row, IsSameTest, body_of, replaced_body, expansion, expanded, unit, body_partial, partial, sweep, brought, keys, absent, once, uses_only, body_uses_only, is_order, AreOf}
+use Rattle.exact_law.proofs.SumLaws.{and_left, and_right}
+use Rattle.exact_law.proofs.Chain.{AllRows, AllRows-map}
 
 -- ---- what an order says of its first row
 pub order-absent : {K : Type 0} (same : K → K → Bool) (r : Row K) (rs : List (Row K)) → is_order same (r ∷ rs) ≡ true
@@ -100,13 +99,13 @@ sweep_step same law v given after r rs o ih n =
     ∙ ap (λ t. (given n +ℚ (t *ℚ body_partial same v r.body n)) +ℚ brought same v rs after n) (sym head)
     ∙ ring (given n ∷ (after r.key *ℚ body_partial same v r.body n) ∷ brought same v rs after n ∷ [])
     ((x0 :+ x1) :+ x2) (x0 :+ (x1 :+ x2)) refl where
-  head : after r.key ≡ given r.key
-  head =
-      ih r.key
-      ∙ ap₂ (λ s t. (given r.key +ℚ given r.key *ℚ s) +ℚ t)
-      (body_partial-unused same law v r.key (keys rs) r.body (order-uses same r rs o) (order-absent same r rs o))
-      (brought-absent same law v after r.key rs (order-rest same r rs o) (order-absent same r rs o))
-      ∙ ring (given r.key ∷ []) ((x0 :+ x0 :* Whole (pos 0)) :+ Whole (pos 0)) x0 refl
+      head : after r.key ≡ given r.key
+      head =
+          ih r.key
+          ∙ ap₂ (λ s t. (given r.key +ℚ given r.key *ℚ s) +ℚ t)
+          (body_partial-unused same law v r.key (keys rs) r.body (order-uses same r rs o) (order-absent same r rs o))
+          (brought-absent same law v after r.key rs (order-rest same r rs o) (order-absent same r rs o))
+          ∙ ring (given r.key ∷ []) ((x0 :+ x0 :* Whole (pos 0)) :+ Whole (pos 0)) x0 refl
 
 pub sweep-brought : {K : Type 0} (same : K → K → Bool) → IsSameTest same → (v : K → ℚ) (rows : List (Row K)) (given : K → ℚ)
     → is_order same rows ≡ true → (n : K)
@@ -143,13 +142,13 @@ unfolding found without
 found-without same law n m [] d h = h
 found-without same law n m (r ∷ rs) d h =
     by (same r.key n) (same r.key m) refl refl h (found-without same law n m rs d) where
-  by : (b c : Bool) → same r.key n ≡ b → same r.key m ≡ c → cond c true (found same m rs) ≡ true
-      → (found same m rs ≡ true → found same m (without same n rs) ≡ true)
-      → found same m (cond b rs (r ∷ without same n rs)) ≡ true
-  by true true e f h ih = absurd (true≢false (sym f ∙ ap (λ k. same k m) (law.sound r.key n e) ∙ d))
-  by true false e f h ih = h
-  by false true e f h ih = rw f refl
-  by false false e f h ih = rw f (ih h)
+      by : (b c : Bool) → same r.key n ≡ b → same r.key m ≡ c → cond c true (found same m rs) ≡ true
+          → (found same m rs ≡ true → found same m (without same n rs) ≡ true)
+          → found same m (cond b rs (r ∷ without same n rs)) ≡ true
+      by true true e f h ih = absurd (true≢false (sym f ∙ ap (λ k. same k m) (law.sound r.key n e) ∙ d))
+      by true false e f h ih = h
+      by false true e f h ih = rw f refl
+      by false false e f h ih = rw f (ih h)
 
 body_of-found : {K : Type 0} (same : K → K → Bool) (n : K) (model : List (Row K)) (b : Body K)
     → body_of same model n ≡ Some b → found same n model ≡ true
@@ -188,9 +187,9 @@ order_fits same law (r ∷ rs) model o h =
     fits (length-without same r.key model h.0)
     (order_fits same law rs (without same r.key model) (order-rest same r rs o)
     (found_without_all same law r.key model rs (order-absent same r rs o) h.1)) where
-  fits : length model ≡ suc (length (without same r.key model)) → length rs ≤ length (without same r.key model)
-      → suc (length rs) ≤ length model
-  fits e g = omega arith
+      fits : length model ≡ suc (length (without same r.key model)) → length rs ≤ length (without same r.key model)
+          → suc (length rs) ≤ length model
+      fits e g = omega arith
 
 -- ---- the expansion of a row is its formula with the expansions of what it uses
 replaced-same : {K L : Type 0} (same : K → K → Bool) (ns : List K) (s t : K → Expression L)
@@ -237,10 +236,10 @@ settled same law model [] k o h l = tt
 settled same law model (r ∷ rs) zero o h l = absurd (omega arith)
 settled same law model (r ∷ rs) (suc k) o h l = (
   ap (replaced_body (expansion same model k) r.key) h.0
-  ∙ replaced_body-same same (keys rs) (expansion same model k) (expansion same model (suc k))
-  (of_key same law _ rs (settled same law model rs k (order-rest same r rs o) h.1 (omega arith)))
-  r.key r.body (order-uses same r rs o)
-  ∙ sym (ap (replaced_body (expansion same model (suc k)) r.key) h.0),
+      ∙ replaced_body-same same (keys rs) (expansion same model k) (expansion same model (suc k))
+      (of_key same law _ rs (settled same law model rs k (order-rest same r rs o) h.1 (omega arith)))
+      r.key r.body (order-uses same r rs o)
+      ∙ sym (ap (replaced_body (expansion same model (suc k)) r.key) h.0),
   settled same law model rs (suc k) (order-rest same r rs o) h.1 (omega arith),
 )
 

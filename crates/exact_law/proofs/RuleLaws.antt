@@ -1,10 +1,10 @@
 -- A condition of the written rule that is settled over intervals is so for what lies in them.
-use Rattle.std.specs.Prelude.{◌≡◌, ℕ, Bool, true, false, cond, ◌&&◌, ◌||◌, List, [], ◌∷◌, ℤ, pos, refl}
-use Rattle.std.proofs.Common.{sym, ◌∙◌, ap, ap₂}
+use Rattle.std.specs.Prelude.{◌≡◌, Bool, true, false, cond, ◌&&◌, ◌||◌, List, [], ◌∷◌, pos, refl}
+use Rattle.std.proofs.Common.{sym, ◌∙◌}
 use Rattle.std.proofs.lemmas.Bool.{true≢false}
 use Rattle.exact_fraction.specs.Number.{ℚ, of_ℤ, ◌*ℚ◌, is_at_most_ℚ, ◌≤ℚ◌}
 use Rattle.exact_fraction.specs.NumberLaws.{≤ℚ_refl, ≤ℚ_trans}
-use Rattle.exact_law.specs.WrittenRule.{Form, Binary, FourOutcomes, Statement, Pass, ConditionalPass, ConditionalFail, Fail, is_inside, is_guarded, is_near, all_of, stated_by, stated_at, Ends, IsWithin, Answer, Yes, No, Unsettled, compared, both, either, Span, inside_over, guarded_over, near_over, all_over, Decision, Stated, Undecided, decided, decision_by, decision, AllWithin, Agrees}
+use Rattle.exact_law.specs.WrittenRule.{Form, Binary, FourOutcomes, Statement, is_inside, is_guarded, is_near, all_of, stated_by, stated_at, Ends, IsWithin, Answer, Yes, No, Unsettled, compared, both, either, Span, inside_over, guarded_over, near_over, all_over, Stated, decided, decision_by, decision, AllWithin, Agrees}
 
 -- ---- tests of the order
 not_at_most : (x y : ℚ) → (x ≤ℚ y → ⊥) → is_at_most_ℚ x y ≡ false

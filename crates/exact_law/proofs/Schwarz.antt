@@ -1,16 +1,16 @@
 -- The law is symmetric, linear in the sensitivities and not negative, so the square of a covariance is
 -- at most the product of the variances.
-use Rattle.std.specs.Prelude.{◌≡◌, ℕ, ◌-◌, Bool, true, false, List, [], ◌∷◌, ℤ, pos, negsuc, refl}
+use Rattle.std.specs.Prelude.{◌≡◌, ℕ, ◌-◌, Bool, true, false, List, [], ◌∷◌, pos, refl}
 use Rattle.std.proofs.Common.{sym, ◌∙◌, ap, ap₂}
 use Rattle.exact_fraction.specs.Number.{ℚ, of_ℤ, ◌+ℚ◌, ◌*ℚ◌, ◌/ℚ◌, neg_ℚ, is_zero_ℚ, ◌≤ℚ◌}
 use Rattle.exact_fraction.specs.NumberLaws.{≤ℚ_refl}
 use Rattle.exact_fraction.proofs.Quotients.{is_zero_ℚ-≡}
-use Rattle.exact_fraction.proofs.OrderLaws.{≤ℚ_left, ≤ℚ_right, ≤ℚ_by, ≤ℚ_cancel, +ℚ-not_negative, *ℚ-not_negative, square-not_negative}
-use Rattle.exact_fraction.proofs.Ring.{Var, Whole, ◌:+◌, ◌:-◌, ◌:*◌, Minus, x0, x1, x2, x3, x4, x5, ring}
+use Rattle.exact_fraction.proofs.OrderLaws.{≤ℚ_right, ≤ℚ_by, ≤ℚ_cancel, +ℚ-not_negative, *ℚ-not_negative, square-not_negative}
+use Rattle.exact_fraction.proofs.Ring.{Var, Whole, ◌:+◌, ◌:*◌, Minus, x0, x1, x2, x3, x4, x5, ring}
 use Rattle.exact_law.specs.Sums.{total, below, ◌-ℚ◌}
 use Rattle.exact_law.specs.Model.{IsSameTest}
-use Rattle.exact_law.specs.Law.{Column, Group, Own, Correlated, Joint, joint, covariance, law_of, part, AllGroups, IsSoundFor}
-use Rattle.exact_law.proofs.SumLaws.{total-same, total-plus, total-times, total-swap}
+use Rattle.exact_law.specs.Law.{Group, Own, Correlated, Joint, joint, covariance, law_of, part, AllGroups, IsSoundFor}
+use Rattle.exact_law.proofs.SumLaws.{total-same, total-swap}
 use Rattle.exact_law.proofs.Order.{not_negative-same, whole-not_negative}
 use Rattle.exact_law.proofs.Split.{total-linear, law_split, part-not_negative}
 
@@ -135,8 +135,8 @@ law_of-form {K = K} same law inputs groups u w h s t =
     ∙ ring (s ∷ t ∷ law_of c inputs u u ∷ law_of c inputs u w ∷ law_of c inputs w w ∷ [])
     (x0 :* (x0 :* x2 :+ x1 :* x3) :+ x1 :* (x0 :* x3 :+ x1 :* x4))
     (x0 :* x0 :* x2 :+ Whole (pos 2) :* (x0 :* x1 :* x3) :+ x1 :* x1 :* x4) refl) where
-  c : K → K → ℚ
-  c = covariance same groups
+      c : K → K → ℚ
+      c = covariance same groups
 
 -- the square of a covariance is at most the product of the variances
 pub law_schwarz : {K : Type 0} (same : K → K → Bool) → IsSameTest same → (inputs : List K) (groups : List (Group K)) (u w : K → ℚ)

@@ -1,11 +1,11 @@
 -- The law is the sum of the groups' parts, and no part is negative.
-use Rattle.std.specs.Prelude.{◌≡◌, ℕ, zero, suc, ◌-◌, Bool, true, false, ◌&&◌, List, [], ◌∷◌, map, ℤ, pos, negsuc, ◌+ℤ◌, refl}
+use Rattle.std.specs.Prelude.{◌≡◌, ℕ, zero, suc, ◌-◌, Bool, true, ◌&&◌, List, [], ◌∷◌, pos, ◌+ℤ◌, refl}
 use Rattle.std.proofs.Common.{sym, ◌∙◌, ap, ap₂, arith}
 use Rattle.std.proofs.lemmas.Int.{ints}
-use Rattle.exact_fraction.specs.Number.{ℚ, of_ℤ, ◌+ℚ◌, ◌*ℚ◌, ◌/ℚ◌, neg_ℚ, inv_ℚ, ◌≤ℚ◌}
+use Rattle.exact_fraction.specs.Number.{ℚ, of_ℤ, ◌+ℚ◌, ◌*ℚ◌, neg_ℚ, inv_ℚ, ◌≤ℚ◌}
 use Rattle.exact_fraction.specs.NumberLaws.{≤ℚ_refl, of_ℤ-+}
 use Rattle.exact_fraction.proofs.OrderLaws.{≤ℚ-difference, +ℚ-not_negative, *ℚ-not_negative, square-not_negative}
-use Rattle.exact_fraction.proofs.Ring.{Var, Whole, ◌:+◌, ◌:-◌, ◌:*◌, Minus, x0, x1, x2, x3, x4, x5, ring}
+use Rattle.exact_fraction.proofs.Ring.{Whole, ◌:+◌, ◌:-◌, ◌:*◌, Minus, x0, x1, x2, x3, x4, x5, ring}
 use Rattle.exact_law.specs.Sums.{total, below, ◌-ℚ◌}
 use Rattle.exact_law.specs.Model.{IsSameTest, unit, once}
 use Rattle.exact_law.specs.Law.{Column, Group, Own, Correlated, Joint, joint, cell, covariance_in, covariance, law_of, part, IsSound, members, stand_in, AllGroups, IsSoundFor}
@@ -86,11 +86,11 @@ law_of-group same law inputs u w (Correlated k m r a b) h =
     ∙ ap₂ ◌+ℚ◌ (law_of-cell same law k k (a *ℚ a) inputs u w k1 k1) (law_of-cell same law m m (b *ℚ b) inputs u w m1 m1))
     (law_of-plus _ _ inputs u w
     ∙ ap₂ ◌+ℚ◌ (law_of-cell same law k m (r *ℚ (a *ℚ b)) inputs u w k1 m1) (law_of-cell same law m k (r *ℚ (a *ℚ b)) inputs u w m1 k1)) where
-  k1 : once same k inputs ≡ true
-  k1 = and_left (once same k inputs) (once same m inputs && true) h
+      k1 : once same k inputs ≡ true
+      k1 = and_left (once same k inputs) (once same m inputs && true) h
 
-  m1 : once same m inputs ≡ true
-  m1 = and_left (once same m inputs) true (and_right (once same k inputs) (once same m inputs && true) h)
+      m1 : once same m inputs ≡ true
+      m1 = and_left (once same m inputs) true (and_right (once same k inputs) (once same m inputs && true) h)
 law_of-group same law inputs u w (Joint n columns) h = law_of-joint same law n columns inputs u w h
 
 law_of-groups : {K : Type 0} (same : K → K → Bool) → IsSameTest same → (inputs : List K) (u w : K → ℚ) (groups : List (Group K))

@@ -1,10 +1,10 @@
 -- Lemmas on sums over lists.
-use Rattle.std.specs.Prelude.{◌≡◌, Bool, true, false, ◌&&◌, not, List, [], ◌∷◌, ℤ, pos, refl}
-use Rattle.std.proofs.Common.{sym, ◌∙◌, ap, ap₂}
+use Rattle.std.specs.Prelude.{◌≡◌, Bool, true, false, ◌&&◌, List, [], ◌∷◌, pos, refl}
+use Rattle.std.proofs.Common.{sym, ◌∙◌, ap}
 use Rattle.std.proofs.Math.Path.{fun_ext}
 use Rattle.std.proofs.lemmas.Bool.{true≢false}
-use Rattle.exact_fraction.specs.Number.{ℚ, of_ℤ, ◌+ℚ◌, ◌*ℚ◌, neg_ℚ}
-use Rattle.exact_fraction.proofs.Ring.{Whole, ◌:+◌, ◌:-◌, ◌:*◌, Minus, x0, x1, x2, x3, x4, ring}
+use Rattle.exact_fraction.specs.Number.{ℚ, of_ℤ, ◌+ℚ◌, ◌*ℚ◌}
+use Rattle.exact_fraction.proofs.Ring.{Whole, ◌:+◌, ◌:*◌, x0, x1, x2, x3, ring}
 use Rattle.exact_law.specs.Sums.{total}
 
 -- ---- tests

@@ -1,18 +1,17 @@
 -- Effective degrees of freedom are at least the least degrees that enter them.
-use Rattle.std.specs.Prelude.{◌≡◌, ℕ, ◌-◌, Bool, true, false, cond, not, ◌&&◌, ◌||◌, List, [], ◌∷◌, ℤ, pos, negsuc, refl}
-use Rattle.std.proofs.Common.{sym, ◌∙◌, ap, ap₂, subst}
+use Rattle.std.specs.Prelude.{◌≡◌, ◌-◌, Bool, true, false, cond, not, ◌&&◌, List, [], ◌∷◌, pos, refl}
+use Rattle.std.proofs.Common.{sym, ◌∙◌, ap}
 use Rattle.std.proofs.lemmas.Bool.{true≢false}
-use Rattle.exact_fraction.specs.Number.{ℚ, of_ℤ, ◌+ℚ◌, ◌*ℚ◌, ◌/ℚ◌, neg_ℚ, inv_ℚ, is_zero_ℚ, ◌≤ℚ◌}
+use Rattle.exact_fraction.specs.Number.{ℚ, of_ℤ, ◌+ℚ◌, ◌*ℚ◌, ◌/ℚ◌, inv_ℚ, is_zero_ℚ, ◌≤ℚ◌}
 use Rattle.exact_fraction.specs.NumberLaws.{≤ℚ_refl, ≤ℚ_trans, ≤ℚ_antisym, *ℚ-≤ℚ, *ℚ-inv, +ℚ-≤ℚ_both}
 use Rattle.exact_fraction.proofs.Quotients.{is_zero_ℚ-≡, ≡-is_zero_ℚ, ≢-is_zero_ℚ}
-use Rattle.exact_fraction.proofs.OrderLaws.{≤ℚ_left, ≤ℚ_right, ≤ℚ_by, ≤ℚ-/ℚ, ≤ℚ-difference, *ℚ-≤ℚ_left, +ℚ-not_negative, *ℚ-not_negative, square-not_negative}
-use Rattle.exact_fraction.proofs.Ring.{Whole, ◌:+◌, ◌:-◌, ◌:*◌, Minus, x0, x1, x2, x3, x4, x5, ring}
-use Rattle.exact_law.specs.Sums.{total, ◌-ℚ◌}
+use Rattle.exact_fraction.proofs.OrderLaws.{≤ℚ_left, ≤ℚ_right, ≤ℚ_by, ≤ℚ-/ℚ, *ℚ-≤ℚ_left, +ℚ-not_negative, *ℚ-not_negative, square-not_negative}
+use Rattle.exact_fraction.proofs.Ring.{Whole, ◌:+◌, ◌:*◌, x0, x1, x2, ring}
+use Rattle.exact_law.specs.Sums.{total}
 use Rattle.exact_law.specs.Model.{Row, IsSameTest, exact_slope}
 use Rattle.exact_law.specs.Law.{Group, Own, Correlated, Joint, law, part, part_of, inputs_of, IsSound, AllGroups, IsSoundFor}
 use Rattle.exact_law.specs.Degrees.{Share, counts, any_counts, weight, NoDegrees, InfiniteDegrees, FiniteDegrees, effective, inverse_degrees, share_of, shares_of, degrees_of}
-use Rattle.exact_law.proofs.SumLaws.{and_left, and_right}
-use Rattle.exact_law.proofs.Order.{not_negative-same, whole-not_negative, inv-not_negative}
+use Rattle.exact_law.proofs.Order.{whole-not_negative, inv-not_negative}
 use Rattle.exact_law.proofs.Split.{law_split, part-not_negative}
 
 -- ---- products that are 0

@@ -1,6 +1,6 @@
 -- Effective degrees of freedom by the Welch-Satterthwaite formula (JCGM 100:2008, G.4.1), and the
 -- coverage factor of Table G.2 for them.
-use Rattle.std.specs.Prelude.{◌≡◌, ℕ, ◌-◌, Bool, true, false, cond, not, ◌&&◌, ◌||◌, List, [], ◌∷◌, ℤ, pos}
+use Rattle.std.specs.Prelude.{ℕ, ◌-◌, Bool, false, cond, not, ◌&&◌, ◌||◌, List, [], ◌∷◌, pos}
 use Rattle.exact_fraction.specs.Number.{ℚ, of_ℤ, ◌*ℚ◌, ◌/ℚ◌, inv_ℚ, is_zero_ℚ, is_at_most_ℚ}
 use Rattle.exact_law.specs.Sums.{total}
 use Rattle.exact_law.specs.Model.{Row}

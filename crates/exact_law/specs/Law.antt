@@ -1,8 +1,8 @@
 -- The law of propagation of uncertainty (JCGM 100:2008, 5.1.2, 5.2.2, H.2): a double sum over the
 -- inputs, of two sensitivities and the covariance of the two inputs. Covariances come from groups of
 -- inputs, and the law is the sum of the groups' parts.
-use Rattle.std.specs.Prelude.{◌≡◌, ℕ, ◌-◌, Bool, true, ◌&&◌, List, [], ◌∷◌, map, ℤ, pos}
-use Rattle.exact_fraction.specs.Number.{ℚ, of_ℤ, ◌+ℚ◌, ◌*ℚ◌, ◌/ℚ◌, neg_ℚ, inv_ℚ, ◌≤ℚ◌}
+use Rattle.std.specs.Prelude.{◌≡◌, ℕ, ◌-◌, Bool, true, ◌&&◌, List, [], ◌∷◌, map, pos}
+use Rattle.exact_fraction.specs.Number.{ℚ, of_ℤ, ◌+ℚ◌, ◌*ℚ◌, ◌/ℚ◌, neg_ℚ, ◌≤ℚ◌}
 use Rattle.exact_law.specs.Sums.{total, below, ◌-ℚ◌}
 use Rattle.exact_law.specs.Model.{Row, Body, Input, Formula, once, unit, exact_slope}
 

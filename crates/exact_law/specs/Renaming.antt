@@ -1,5 +1,5 @@
 -- A model under new names for its keys, as when the names of a sheet become numbers of a graph.
-use Rattle.std.specs.Prelude.{◌≡◌, List, [], ◌∷◌, map, Bool}
+use Rattle.std.specs.Prelude.{◌≡◌, List, [], ◌∷◌, Bool}
 use Rattle.exact_law.specs.Model.{Expression, Key, replaced, Body, Input, Formula, Row}
 use Rattle.exact_law.specs.Law.{Group, Own, Correlated, Joint, Column}
 

@@ -1,7 +1,7 @@
 -- Rounded numbers (JCGM 100:2008, 7.2.6): the whole part, an estimate at a decimal place, the two
 -- significant digits of the square root of a variance, and the hundredths of a correlation
 -- coefficient. Ties go upward.
-use Rattle.std.specs.Prelude.{◌≡◌, ℕ, suc, ◌+◌, ◌-◌, ◌*◌, ◌≤◌, ◌==◌, Bool, cond, ℤ, pos, negsuc, ◌<ℤ◌, unsigned_abs}
+use Rattle.std.specs.Prelude.{ℕ, suc, ◌+◌, ◌-◌, ◌*◌, ◌≤◌, ◌==◌, cond, ℤ, pos, negsuc, ◌<ℤ◌, unsigned_abs}
 use Rattle.exact_fraction.specs.Number.{ℚ, of_ℤ, ◌+ℚ◌, ◌*ℚ◌, ◌/ℚ◌, inv_ℚ, ◌≤ℚ◌, floor_ℚ}
 use Rattle.exact_law.specs.Sums.{power, ◌<ℚ◌}
 
@@ -29,6 +29,14 @@ pub record IsTwoDigits (v : ℚ) (m : ℕ) (e : ℤ) : Type 0 where
   pub at_most_99 : m ≤ 99
   pub low : scaled_square (least_root m) e ≤ℚ of_ℤ (pos 400) *ℚ v
   pub high : of_ℤ (pos 400) *ℚ v <ℚ scaled_square (20 * m + 10) e
+
+-- the same in two steps: the place where the root has two digits, and there the nearest whole number,
+-- which may be 100, that is 10 at the next place
+pub record IsNearest (v : ℚ) (m : ℕ) (e : ℤ) : Type 0 where
+  pub at_least_10 : scaled_square 10 e ≤ℚ v
+  pub below_100 : v <ℚ scaled_square 100 e
+  pub low : scaled_square (2 * m - 1) e ≤ℚ of_ℤ (pos 4) *ℚ v
+  pub high : of_ℤ (pos 4) *ℚ v <ℚ scaled_square (2 * m + 1) e
 
 -- the root of f, from 0 to 1, is rounded to m hundredths
 pub record IsHundredths (f : ℚ) (m : ℕ) : Type 0 where

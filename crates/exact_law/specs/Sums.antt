@@ -1,6 +1,6 @@
 -- Sums over a list, whole powers, and the strict order of the numbers.
-use Rattle.std.specs.Prelude.{◌≡◌, ℕ, zero, suc, Bool, false, List, [], ◌∷◌, ℤ, pos, negsuc}
-use Rattle.exact_fraction.specs.Number.{ℚ, of_ℤ, ◌+ℚ◌, ◌*ℚ◌, ◌/ℚ◌, neg_ℚ, inv_ℚ, is_at_most_ℚ}
+use Rattle.std.specs.Prelude.{◌≡◌, ℕ, zero, suc, false, List, [], ◌∷◌, ℤ, pos, negsuc}
+use Rattle.exact_fraction.specs.Number.{ℚ, of_ℤ, ◌+ℚ◌, ◌*ℚ◌, neg_ℚ, inv_ℚ, is_at_most_ℚ}
 
 -- the sum of f over the list
 unfoldable pub total : {A : Type 0} → (A → ℚ) → List A → ℚ

@@ -1,9 +1,8 @@
 -- Small models, by which the definitions can be read: their values are computed by the definitions.
-use Rattle.std.specs.Prelude.{ℕ, List, [], ◌∷◌, ℤ, pos, negsuc}
-use Rattle.exact_fraction.specs.Number.{ℚ, of_ℤ, ◌/ℚ◌, inv_ℚ}
-use Rattle.exact_law.specs.Model.{Num, Key, Add, Sub, Mul, Div, Body, Input, Formula, Row}
-use Rattle.exact_law.specs.Law.{Group, Own, Correlated, Joint, Column}
-use Rattle.exact_law.specs.Sums.{◌-ℚ◌}
+use Rattle.std.specs.Prelude.{ℕ, List, [], ◌∷◌, pos, negsuc}
+use Rattle.exact_fraction.specs.Number.{ℚ, of_ℤ, inv_ℚ}
+use Rattle.exact_law.specs.Model.{Num, Key, Add, Sub, Mul, Body, Input, Formula, Row}
+use Rattle.exact_law.specs.Law.{Group, Own, Correlated}
 
 abbrev pub whole : ℕ → ℚ
 whole n = of_ℤ (pos n)
@@ -45,4 +44,3 @@ fully_correlated =
 
 abbrev pub fully_correlated_groups : List (Group ℕ)
 fully_correlated_groups = Correlated 0 1 (of_ℤ (negsuc 0)) (whole 1) (whole 1) ∷ []
-

@@ -1,4 +1,3 @@
-use Rattle.std.specs.Prelude.{refl}
 use Rattle.exact_law.specs.Model.{exact_value, unit, sweep}
 use Rattle.exact_law.proofs.ChainRule.{gradient, sweep-backward}
 use Rattle.exact_law.proofs.sweep_gives_the_derivatives.Goals as goal

@@ -1,4 +1,4 @@
-use Rattle.exact_law.proofs.RoundingLaws.{floor-between, at_place-between, two_digits-between, two_digits-unique, hundredths-between, hundredths-unique}
+use Rattle.exact_law.proofs.RoundingLaws.{floor-between, at_place-between, two_digits-between, hundredths-between}
 use Rattle.exact_law.proofs.what_the_ends_round_to_all_between_do.Goals as goal
 
 pub returns : goal.returns
@@ -6,7 +6,5 @@ returns c = record {
   whole_part = floor-between;
   estimate = at_place-between;
   two_digits = two_digits-between;
-  one_pair = two_digits-unique;
   hundredths = hundredths-between;
-  one_number = hundredths-unique;
 }
