@@ -6,9 +6,10 @@ use Rattle.std.proofs.lemmas.Bool.{true≢false}
 use std.Quotient.{/_rec}
 use Rattle.exact_fraction.specs.Fraction.{inverse}
 use Rattle.exact_fraction.specs.Number.{ℚ, of_ℤ, ◌*ℚ◌, inv_ℚ, is_zero_ℚ, is_at_most_ℚ, ◌≤ℚ◌}
-use Rattle.exact_fraction.specs.NumberLaws.{≤ℚ_refl, ≤ℚ_trans, ≤ℚ_same, ≤ℚ-turned, of_ℤ-≤ℚ}
+use Rattle.exact_fraction.specs.NumberLaws.{≤ℚ_refl, ≤ℚ_trans, ≤ℚ_same, ≤ℚ-turned, of_ℤ-≤ℚ, *ℚ-inv}
 use Rattle.exact_fraction.proofs.Quotients.{is_zero_ℚ-≡}
 use Rattle.exact_fraction.proofs.OrderLaws.{≤ℚ_right, *ℚ-≤ℚ_left, +ℚ-not_negative, inv_ℚ-not_negative}
+use Rattle.exact_fraction.proofs.Ring.{Whole, ◌:*◌, x0, x1, x2, ring}
 use Rattle.exact_law.specs.Sums.{total, ◌<ℚ◌}
 
 -- a number that is not negative, and its equals
@@ -62,3 +63,10 @@ times-≤ℚ k x y h = *ℚ-≤ℚ_left x y (of_ℤ (pos k)) (whole-not_negative
 
 pub below_at_most : (x y : ℚ) → x <ℚ y → x ≤ℚ y
 below_at_most x y h = ≤ℚ-turned y x h.not_above
+
+-- ---- products that are 0
+pub product_zero : (x y : ℚ) → is_zero_ℚ x ≡ false → x *ℚ y ≡ of_ℤ (pos 0) → y ≡ of_ℤ (pos 0)
+product_zero x y n h =
+    ring (y ∷ []) x0 (Whole (pos 1) :* x0) refl ∙ ap (λ t. t *ℚ y) (sym (*ℚ-inv x n))
+    ∙ ring (x ∷ inv_ℚ x ∷ y ∷ []) (x0 :* x1 :* x2) (x1 :* (x0 :* x2)) refl
+    ∙ ap (λ t. inv_ℚ x *ℚ t) h ∙ ring (inv_ℚ x ∷ []) (x0 :* Whole (pos 0)) (Whole (pos 0)) refl

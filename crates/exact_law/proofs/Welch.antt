@@ -11,15 +11,8 @@ use Rattle.exact_law.specs.Sums.{total}
 use Rattle.exact_law.specs.Model.{Row, IsSameTest, exact_slope}
 use Rattle.exact_law.specs.Law.{Group, Own, Correlated, Joint, law, part, part_of, inputs_of, IsSound, AllGroups, IsSoundFor}
 use Rattle.exact_law.specs.Degrees.{Share, counts, any_counts, weight, NoDegrees, InfiniteDegrees, FiniteDegrees, effective, inverse_degrees, share_of, shares_of, degrees_of}
-use Rattle.exact_law.proofs.Order.{whole-not_negative, inv-not_negative}
+use Rattle.exact_law.proofs.Order.{product_zero, whole-not_negative, inv-not_negative}
 use Rattle.exact_law.proofs.Split.{law_split, part-not_negative}
-
--- ---- products that are 0
-product_zero : (x y : ℚ) → is_zero_ℚ x ≡ false → x *ℚ y ≡ of_ℤ (pos 0) → y ≡ of_ℤ (pos 0)
-product_zero x y n h =
-    ring (y ∷ []) x0 (Whole (pos 1) :* x0) refl ∙ ap (λ t. t *ℚ y) (sym (*ℚ-inv x n))
-    ∙ ring (x ∷ inv_ℚ x ∷ y ∷ []) (x0 :* x1 :* x2) (x1 :* (x0 :* x2)) refl
-    ∙ ap (λ t. inv_ℚ x *ℚ t) h ∙ ring (inv_ℚ x ∷ []) (x0 :* Whole (pos 0)) (Whole (pos 0)) refl
 
 -- a share that is sound, and whose degrees are at least m where it counts
 record IsAbove (m : ℚ) (s : Share) : Type 0 where
