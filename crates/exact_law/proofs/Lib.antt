@@ -1,0 +1,14 @@
+pub mod SumLaws
+pub mod Chain
+pub mod Rows
+pub mod ChainRule
+pub mod Order
+pub mod Split
+pub mod Schwarz
+pub mod Welch
+pub mod RenamingLaws
+pub mod RuleLaws
+pub mod FactorLaws
+pub mod RoundingLaws
+pub mod Digits
+pub mod Nearest

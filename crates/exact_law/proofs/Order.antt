@@ -1,0 +1,72 @@
+-- Lemmas on the order of the numbers and on sums of numbers that are not negative.
+use Rattle.std.specs.Prelude.{◌≡◌, ℕ, Bool, true, false, List, [], ◌∷◌, pos, ◌⊎◌, refl}
+use Rattle.std.proofs.Common.{sym, ◌∙◌, ap, arith, inl, inr}
+use Rattle.std.proofs.lemmas.Int.{ints}
+use Rattle.std.proofs.lemmas.Bool.{true≢false}
+use std.Quotient.{/_rec}
+use Rattle.exact_fraction.specs.Fraction.{inverse}
+use Rattle.exact_fraction.specs.Number.{ℚ, of_ℤ, ◌*ℚ◌, inv_ℚ, is_zero_ℚ, is_at_most_ℚ, ◌≤ℚ◌}
+use Rattle.exact_fraction.specs.NumberLaws.{≤ℚ_refl, ≤ℚ_trans, ≤ℚ_same, ≤ℚ-turned, of_ℤ-≤ℚ, *ℚ-inv}
+use Rattle.exact_fraction.proofs.Quotients.{is_zero_ℚ-≡}
+use Rattle.exact_fraction.proofs.OrderLaws.{≤ℚ_right, *ℚ-≤ℚ_left, +ℚ-not_negative, inv_ℚ-not_negative}
+use Rattle.exact_fraction.proofs.Ring.{Whole, ◌:*◌, x0, x1, x2, ring}
+use Rattle.exact_law.specs.Sums.{total, ◌<ℚ◌}
+
+-- a number that is not negative, and its equals
+pub not_negative-same : (x y : ℚ) → x ≡ y → of_ℤ (pos 0) ≤ℚ y → of_ℤ (pos 0) ≤ℚ x
+not_negative-same x y e h = ≤ℚ_right _ y x (sym e) h
+
+pub whole-not_negative : (n : ℕ) → of_ℤ (pos 0) ≤ℚ of_ℤ (pos n)
+whole-not_negative n = of_ℤ-≤ℚ (pos 0) (pos n) (omega (arith, ints))
+
+zero-inv : inv_ℚ (of_ℤ (pos 0)) ≡ of_ℤ (pos 0)
+unfolding inv_ℚ /_rec inverse
+zero-inv = refl
+
+-- the inverse of what is not negative is not, also the one of 0, which means nothing
+pub inv-not_negative : (x : ℚ) → of_ℤ (pos 0) ≤ℚ x → of_ℤ (pos 0) ≤ℚ inv_ℚ x
+inv-not_negative x h = by (is_zero_ℚ x) refl where
+  by : (b : Bool) → is_zero_ℚ x ≡ b → of_ℤ (pos 0) ≤ℚ inv_ℚ x
+  by true e = ≤ℚ_same _ _ (sym (ap inv_ℚ (is_zero_ℚ-≡ x e) ∙ zero-inv))
+  by false e = inv_ℚ-not_negative x h e
+
+pub total-not_negative : {A : Type 0} (f : A → ℚ) (xs : List A) → ((x : A) → of_ℤ (pos 0) ≤ℚ f x) → of_ℤ (pos 0) ≤ℚ total f xs
+unfolding total
+total-not_negative f [] h = ≤ℚ_refl _
+total-not_negative f (x ∷ xs) h = +ℚ-not_negative _ _ (h x) (total-not_negative f xs h)
+
+-- ---- the strict order
+pub below_not : (x y : ℚ) → x <ℚ y → y ≤ℚ x → ⊥
+below_not x y h k = absurd (true≢false (sym k.holds ∙ h.not_above))
+
+pub below_by : (x y : ℚ) → (y ≤ℚ x → ⊥) → x <ℚ y
+below_by x y h = by (is_at_most_ℚ y x) refl where
+  by : (b : Bool) → is_at_most_ℚ y x ≡ b → x <ℚ y
+  by true e = absurd (h (record { holds = e }))
+  by false e = record { not_above = e }
+
+pub below_or_not : (x y : ℚ) → (x <ℚ y) ⊎ (y ≤ℚ x)
+below_or_not x y = by (is_at_most_ℚ y x) refl where
+  by : (b : Bool) → is_at_most_ℚ y x ≡ b → (x <ℚ y) ⊎ (y ≤ℚ x)
+  by true e = inr (record { holds = e })
+  by false e = inl (record { not_above = e })
+
+pub ≤ℚ-<ℚ : (x y z : ℚ) → x ≤ℚ y → y <ℚ z → x <ℚ z
+≤ℚ-<ℚ x y z h k = below_by x z (λ g. below_not y z k (≤ℚ_trans z x y g h))
+
+pub <ℚ-≤ℚ : (x y z : ℚ) → x <ℚ y → y ≤ℚ z → x <ℚ z
+<ℚ-≤ℚ x y z h k = below_by x z (λ g. below_not x y h (≤ℚ_trans y z x k g))
+
+-- ---- along a positive whole factor
+pub times-≤ℚ : (k : ℕ) (x y : ℚ) → x ≤ℚ y → of_ℤ (pos k) *ℚ x ≤ℚ of_ℤ (pos k) *ℚ y
+times-≤ℚ k x y h = *ℚ-≤ℚ_left x y (of_ℤ (pos k)) (whole-not_negative k) h
+
+pub below_at_most : (x y : ℚ) → x <ℚ y → x ≤ℚ y
+below_at_most x y h = ≤ℚ-turned y x h.not_above
+
+-- ---- products that are 0
+pub product_zero : (x y : ℚ) → is_zero_ℚ x ≡ false → x *ℚ y ≡ of_ℤ (pos 0) → y ≡ of_ℤ (pos 0)
+product_zero x y n h =
+    ring (y ∷ []) x0 (Whole (pos 1) :* x0) refl ∙ ap (λ t. t *ℚ y) (sym (*ℚ-inv x n))
+    ∙ ring (x ∷ inv_ℚ x ∷ y ∷ []) (x0 :* x1 :* x2) (x1 :* (x0 :* x2)) refl
+    ∙ ap (λ t. inv_ℚ x *ℚ t) h ∙ ring (inv_ℚ x ∷ []) (x0 :* Whole (pos 0)) (Whole (pos 0)) refl

@@ -1,0 +1,12 @@
+use Rattle.exact_law.proofs.RoundingLaws.{two_digits-unique, hundredths-unique}
+use Rattle.exact_law.proofs.Digits.{two_digits-exist}
+use Rattle.exact_law.proofs.Nearest.{two_digits-steps}
+use Rattle.exact_law.proofs.digits_are_there_once.Goals as goal
+
+pub returns : goal.returns
+returns c = record {
+  two_digits = two_digits-exist;
+  one_pair = two_digits-unique;
+  two_steps = two_digits-steps;
+  hundredths = hundredths-unique;
+}

@@ -1,0 +1,151 @@
+//! The exact law of propagation of uncertainty, as mathematics: what a model's values, sensitivities,
+//! variances and covariances, effective degrees of freedom, rounded numbers and statements of
+//! conformity are, in the terms of the GUM (JCGM 100:2008) and of ILAC-G8:09/2019.
+//!
+//! The definitions in `specs/` are over exact numbers, generic in the key of a quantity, and know
+//! nothing of texts, names, intervals or of the order in which code works. Each function below has an
+//! empty body, and its clauses are a theorem on the definitions. `same` is any test of two keys for
+//! equality.
+#![tactic(auto)]
+
+ghost use Rattle.std.specs.Prelude.{◌≡◌, ◌↔◌, ◌⊎◌, ℕ, ◌≤◌, ℤ, ◌-ℤ◌, pos, Bool, true, Some, List, nat_eq};
+ghost use Rattle.exact_fraction.specs.Number.{ℚ, of_ℤ, ◌*ℚ◌, inv_ℚ, ◌≤ℚ◌, floor_ℚ};
+ghost use Rattle.exact_law.specs.Sums.{total, ◌<ℚ◌};
+ghost use Rattle.exact_law.specs.Model.{Expression, Input, Formula, Row, IsSameTest, body_of, exact_value, exact_slope, has_value, unit, sweep, IsBackward, keys, once, IsOrderOf, IsByRow};
+ghost use Rattle.exact_law.specs.Law.{Group, inputs_of, covariance, law, part_of, IsSound, IsSoundFor, AllGroups};
+ghost use Rattle.exact_law.specs.Degrees.{NoDegrees, InfiniteDegrees, FiniteDegrees, degrees_of, inverse_degrees, share_of, counts, Level, factor};
+ghost use Rattle.exact_law.specs.Rounding.{at_place, IsTwoDigits, IsNearest, IsHundredths};
+ghost use Rattle.exact_law.specs.WrittenRule.{Form, Statement, Ends, IsWithin, Span, AllWithin, Agrees, is_guarded, is_inside, is_near, all_of, guarded_over, inside_over, near_over, all_over, Stated, decision, stated_at};
+ghost use Rattle.exact_law.specs.WorkedRows.{cancel, cancel_groups, two_degrees, two_degrees_groups, fully_correlated, fully_correlated_groups};
+ghost use Rattle.exact_law.specs.Renaming.{KeepsApart, renamed_rows, renamed_groups};
+
+/// Sharing changes nothing: in an order of rows of the model, the value of a formula row, whether it is
+/// defined and its derivative by every input are those of its own formula, at the values and derivatives
+/// of the quantities that it uses. So those of the expansion are found row by row.
+pub fn rows_give_the_expansion<K>()
+    ensures { (same : K → K → Bool) → IsSameTest same → (model rows : List (Row K)) → IsOrderOf same model rows
+        → (m : K) (f : Expression K) → once same m (keys rows) ≡ true → body_of same model m ≡ Some (Formula f)
+        → IsByRow same model m f }
+{}
+
+/// The chain rule through shared rows. In an order of rows of the model that holds `y`, the sweep from
+/// users to what they use, each adding its own sensitivity times its partial derivative, gives the
+/// derivative of the expansion of `y` by every input, also by one that it does not use. So does any
+/// solution `a` of the equations 'the sensitivity to n is 1 if n is y, plus, for each row, the
+/// sensitivity to the row times the row's partial derivative by n', in whatever way it is found.
+pub fn sweep_gives_the_derivatives<K>()
+    ensures of_sweep { (same : K → K → Bool) → IsSameTest same → (model rows : List (Row K)) → IsOrderOf same model rows
+        → (y : K) → once same y (keys rows) ≡ true
+        → (i : K) (q : ℚ) → body_of same model i ≡ Some (Input q)
+        → exact_slope same model y i ≡ sweep same (exact_value same model) rows (λ n. unit same n y) i }
+    ensures of_equations { (same : K → K → Bool) → IsSameTest same → (model rows : List (Row K)) → IsOrderOf same model rows
+        → (y : K) → once same y (keys rows) ≡ true
+        → (a : K → ℚ) → IsBackward same (exact_value same model) a y rows
+        → (i : K) (q : ℚ) → body_of same model i ≡ Some (Input q)
+        → exact_slope same model y i ≡ a i }
+{}
+
+/// The variance of a quantity is the sum of the groups' parts, and neither a part nor a variance is
+/// negative. The covariance of two quantities does not depend on their order, and its square is at most
+/// the product of their variances. A group must be sound: no variance negative, a declared correlation
+/// from -1 to 1; of a table nothing is asked.
+pub fn law_is_the_sum_of_its_parts<K>()
+    ensures sum { (same : K → K → Bool) → IsSameTest same → (model : List (Row K)) (groups : List (Group K))
+        → AllGroups (IsSoundFor same (inputs_of model)) groups
+        → (y : K) → law same model groups y y ≡ total (λ g. part_of same model g y) groups }
+    ensures part_not_negative { (same : K → K → Bool) (model : List (Row K)) (g : Group K) → IsSound g
+        → (y : K) → of_ℤ (pos 0) ≤ℚ part_of same model g y }
+    ensures not_negative { (same : K → K → Bool) → IsSameTest same → (model : List (Row K)) (groups : List (Group K))
+        → AllGroups (IsSoundFor same (inputs_of model)) groups
+        → (y : K) → of_ℤ (pos 0) ≤ℚ law same model groups y y }
+    ensures symmetric { (same : K → K → Bool) → IsSameTest same → (model : List (Row K)) (groups : List (Group K))
+        → AllGroups (IsSoundFor same (inputs_of model)) groups
+        → (y z : K) → law same model groups y z ≡ law same model groups z y }
+    ensures schwarz { (same : K → K → Bool) → IsSameTest same → (model : List (Row K)) (groups : List (Group K))
+        → AllGroups (IsSoundFor same (inputs_of model)) groups
+        → (y z : K) → law same model groups y z *ℚ law same model groups y z
+        ≤ℚ law same model groups y y *ℚ law same model groups z z }
+{}
+
+/// Finite effective degrees of freedom are at least any bound `m` that is at most the degrees of each
+/// group whose degrees are finite and whose part is not 0, so at least the least of these degrees.
+pub fn degrees_are_at_least_the_least<K>()
+    ensures { (same : K → K → Bool) → IsSameTest same → (model : List (Row K)) (groups : List (Group K))
+        → AllGroups (IsSoundFor same (inputs_of model)) groups
+        → (y : K) (m x : ℚ)
+        → AllGroups (λ g. counts (share_of same model y g) ≡ true → m ≤ℚ inv_ℚ (inverse_degrees g)) groups
+        → degrees_of same model groups y ≡ FiniteDegrees x → m ≤ℚ x }
+{}
+
+/// Rounded numbers are monotone: where both ends of an interval have the same whole part, estimate at a
+/// place, two digits or hundredths, so has every number between them.
+pub fn what_the_ends_round_to_all_between_do()
+    ensures whole_part { (x z y : ℚ) (c : ℤ) → x ≤ℚ z → z ≤ℚ y → floor_ℚ x ≡ c → floor_ℚ y ≡ c → floor_ℚ z ≡ c }
+    ensures estimate { (x z y : ℚ) (e c : ℤ) → x ≤ℚ z → z ≤ℚ y → at_place x e ≡ c → at_place y e ≡ c → at_place z e ≡ c }
+    ensures two_digits { (x z y : ℚ) (m : ℕ) (e : ℤ) → x ≤ℚ z → z ≤ℚ y
+        → IsTwoDigits x m e → IsTwoDigits y m e → IsTwoDigits z m e }
+    ensures hundredths { (x z y : ℚ) (m : ℕ) → x ≤ℚ z → z ≤ℚ y → IsHundredths x m → IsHundredths y m → IsHundredths z m }
+{}
+
+/// A number above 0 has two digits, and in one way; they are those of the two steps 'the place where the
+/// root has two digits, and there the nearest whole number, with 100 as 10 at the next place'. A number
+/// has hundredths in one way at most.
+pub fn digits_are_there_once()
+    ensures two_digits { (v : ℚ) → of_ℤ (pos 0) <ℚ v → (m : ℕ) × ((e : ℤ) × IsTwoDigits v m e) }
+    ensures one_pair { (v : ℚ) (m n : ℕ) (e f : ℤ) → IsTwoDigits v m e → IsTwoDigits v n f → (m ≡ n) × (e ≡ f) }
+    ensures two_steps { (v : ℚ) (m : ℕ) (e : ℤ) → IsTwoDigits v m e
+        ↔ ((IsNearest v m e × (m ≤ 99)) ⊎ ((m ≡ 10) × IsNearest v 100 (e -ℤ pos 1))) }
+    ensures hundredths { (x : ℚ) (m n : ℕ) → IsHundredths x m → IsHundredths x n → m ≡ n }
+{}
+
+/// The factor of Table G.2 falls as the degrees of freedom grow, and is least for infinite ones.
+pub fn factor_falls_as_degrees_grow()
+    ensures falls { (level : Level) (x y : ℚ) → x ≤ℚ y → factor level (FiniteDegrees y) ≤ℚ factor level (FiniteDegrees x) }
+    ensures least { (level : Level) (x : ℚ) → factor level InfiniteDegrees ≤ℚ factor level (FiniteDegrees x) }
+{}
+
+/// Each condition of the written rule that is settled over intervals, as one that holds or as one that
+/// fails, is so for the exact numbers in them, and a statement over intervals is the exact one.
+pub fn what_is_settled_over_intervals_is_exact()
+    ensures guarded { (w : ℚ) (ends : Ends) (ds : List ℚ) (spans : List Span) → IsWithin w ends → AllWithin ds spans
+        → Agrees (all_over (guarded_over ends) spans) (all_of (is_guarded w) ds) }
+    ensures inside { (ds : List ℚ) (spans : List Span) → AllWithin ds spans
+        → Agrees (all_over inside_over spans) (all_of is_inside ds) }
+    ensures near { (w : ℚ) (ends : Ends) (ds : List ℚ) (spans : List Span) → IsWithin w ends → AllWithin ds spans
+        → Agrees (all_over (near_over ends) spans) (all_of (is_near w) ds) }
+    ensures statement { (form : Form) (w : ℚ) (ends : Ends) (ds : List ℚ) (spans : List Span) (s : Statement)
+        → IsWithin w ends → AllWithin ds spans → decision form ends spans ≡ Stated s → stated_at form w ds ≡ s }
+{}
+
+/// A renaming of the keys that keeps them apart, as that of a sheet's names to a graph's numbers, changes
+/// no covariance of inputs, and no value, sensitivity, variance or covariance of quantities.
+pub fn renaming_changes_nothing<K, L>()
+    ensures covariances { (same : K → K → Bool) (same' : L → L → Bool) (rename : K → L) → KeepsApart same same' rename
+        → (groups : List (Group K)) (i j : K)
+        → covariance same' (renamed_groups rename groups) (rename i) (rename j) ≡ covariance same groups i j }
+    ensures values { (same : K → K → Bool) (same' : L → L → Bool) (rename : K → L) → KeepsApart same same' rename
+        → (model : List (Row K)) (y : K)
+        → exact_value same' (renamed_rows rename model) (rename y) ≡ exact_value same model y }
+    ensures defined { (same : K → K → Bool) (same' : L → L → Bool) (rename : K → L) → KeepsApart same same' rename
+        → (model : List (Row K)) (y : K)
+        → has_value same' (renamed_rows rename model) (rename y) ≡ has_value same model y }
+    ensures sensitivities { (same : K → K → Bool) (same' : L → L → Bool) (rename : K → L) → KeepsApart same same' rename
+        → (model : List (Row K)) (y i : K)
+        → exact_slope same' (renamed_rows rename model) (rename y) (rename i) ≡ exact_slope same model y i }
+    ensures laws { (same : K → K → Bool) (same' : L → L → Bool) (rename : K → L) → KeepsApart same same' rename
+        → (model : List (Row K)) (groups : List (Group K)) (y z : K)
+        → law same' (renamed_rows rename model) (renamed_groups rename groups) (rename y) (rename z)
+        ≡ law same model groups y z }
+{}
+
+/// The definitions at small models: three uses of one input that cancel leave no variance, two equal
+/// inputs with 5 degrees of freedom each have 10 together, and of two inputs with the correlation
+/// coefficient -1 the sum has no variance and no degrees of freedom.
+pub fn worked_rows()
+    ensures cancel_value { exact_value nat_eq cancel 3 ≡ of_ℤ (pos 0) }
+    ensures cancel_slope { exact_slope nat_eq cancel 2 0 ≡ of_ℤ (pos 3) }
+    ensures cancel_variance { law nat_eq cancel cancel_groups 3 3 ≡ of_ℤ (pos 0) }
+    ensures two_degrees { degrees_of nat_eq two_degrees two_degrees_groups 2 ≡ FiniteDegrees (of_ℤ (pos 10)) }
+    ensures fully_correlated { law nat_eq fully_correlated fully_correlated_groups 2 2 ≡ of_ℤ (pos 0) }
+    ensures no_degrees { degrees_of nat_eq fully_correlated fully_correlated_groups 2 ≡ NoDegrees }
+{}
