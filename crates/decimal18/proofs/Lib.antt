@@ -16,3 +16,4 @@ pub mod CutOff
 pub mod Counting
 pub mod Products
 pub mod Quotients
+pub mod Compared

@@ -1,7 +1,7 @@
 -- The values of decimal numbers: zeros at the end change none, the order of coefficients at one
 -- number of places is the order of values, and a floor is the greatest coefficient not above.
-use Rattle.std.specs.Prelude.{◌≡◌, ℕ, ◌+◌, ◌*◌, ◌^◌, ℤ, pos, ◌*ℤ◌, ◌≤ℤ◌, refl}
-use Rattle.std.proofs.Common.{subst, arith}
+use Rattle.std.specs.Prelude.{◌≡◌, ◌≢◌, ℕ, ◌+◌, ◌*◌, ◌^◌, ℤ, pos, ◌*ℤ◌, ◌≤ℤ◌, refl}
+use Rattle.std.proofs.Common.{subst, ap, ◌∙◌, arith}
 use Rattle.std.proofs.Math.Pow.{pow-add}
 use lib.Dec.{T_prop}
 use mathlib.Core.HLevel.{Π_prop}
@@ -11,7 +11,7 @@ use Rattle.exact_fraction.specs.Fraction.{◌⊗◌, whole}
 use Rattle.exact_fraction.specs.Floor.{times_one}
 use Rattle.exact_fraction.specs.Number.{ℚ, of_ℤ, ◌*ℚ◌, ◌≤ℚ◌}
 use Rattle.exact_fraction.specs.NumberLaws.{≤ℚ-of_≼, ≼-of_≤ℚ, ≤ℚ_prop, ≤floor_ℚ, floor_ℚ-≤}
-use Rattle.decimal18.specs.Bound.{scaled, fraction_of, value_of}
+use Rattle.decimal18.specs.Bound.{Bound, scaled, fraction_of, value_of}
 use Rattle.decimal18.specs.Down.{floor_at}
 
 shifted : (m : ℤ) (k s n : ℕ) → n ≡ s * k → ((m *ℤ pos k) *ℤ pos s) ≡ (m *ℤ pos n)
@@ -61,3 +61,13 @@ under_value m p =
       at_most = from_whole m q.num q.den (10 ^ p)
           (≼-of_≤ℚ (whole m) (q ⊗ whole (pos (10 ^ p))) (floor_ℚ-≤ m _ h)).at_most;
     }))
+
+value-zero : (c : ℤ) (p : ℕ) → c ≡ pos 0 → value_of (scaled c p) ≡ of_ℤ (pos 0)
+unfolding value_of
+value-zero c p e = eq/ (fraction_of (scaled c p)) (whole (pos 0)) (record { same = ap (λ z. z *ℤ pos 1) e ∙ nothing (10 ^ p) }) where
+  nothing : (t : ℕ) → pos 0 ≡ (pos 0 *ℤ pos t)
+  nothing t = ap pos (omega arith)
+
+-- what is not 0 has a coefficient that is not 0
+pub coefficient_not_zero : (b : Bound) → value_of b ≢ of_ℤ (pos 0) → b.coefficient ≢ pos 0
+coefficient_not_zero b h e = h (value-zero b.coefficient b.places e)

@@ -4,3 +4,5 @@ pub mod Digits
 pub mod Text
 pub mod Literal
 pub mod Significand
+pub mod Order
+pub mod OrderLaws

@@ -2,6 +2,8 @@ ghost use Rattle.std.specs.Prelude.{◌≡◌, ℕ, ◌+◌, ◌-◌, ◌*◌, �
 ghost use Rattle.exact_fraction.specs.Number.{ℚ, of_ℤ, ◌*ℚ◌, inv_ℚ};
 ghost use Rattle.decimal18.specs.Bound.{Bound, scaled, value_of, canonical, IsCanonical};
 ghost use Rattle.decimal18.specs.Down.{down, up, IsDown, IsUp, IsInRange};
+ghost use Rattle.exact_fraction.specs.Ratio.{IsOrderOf};
+ghost use Rattle.decimal18.specs.Order.{order};
 ghost use Rattle.decimal18.specs.Text.{text_of};
 
 /// The canonical form keeps the value, and a value has only one: equal values are equal numbers.
@@ -23,6 +25,12 @@ pub fn down_is_greatest()
 pub fn up_is_least()
     ensures some { (x : ℚ) (b : Bound) → (up x ≡ Some b) ↔ (IsInRange x × IsUp x b × IsCanonical b) }
     ensures none { (x : ℚ) → (up x ≡ None) ↔ (¬ IsInRange x) }
+{}
+
+/// The order of decimal numbers is that of their values: one is less than another exactly where its
+/// value is below, and equal exactly where the values are.
+pub fn order_is_that_of_values()
+    ensures { (a b : Bound) → IsCanonical a → IsCanonical b → IsOrderOf (order a b) (value_of a) (value_of b) }
 {}
 
 /// What `down` and `up` answer to 1/3, -1/3, 12/11, half of the least number above 0, and half of

@@ -11,6 +11,7 @@ mod literal_laws;
 #[cfg(test)]
 mod literal_tests;
 mod magnitude;
+mod order;
 mod powers;
 mod print;
 mod product;
@@ -27,7 +28,10 @@ pub use arithmetic::{
 };
 pub use byte_list::Bytes;
 pub use decimal::Dec;
-pub use laws::{down_is_greatest, one_canonical_form, up_is_least, worked_roundings, worked_texts};
+pub use laws::{
+    down_is_greatest, one_canonical_form, order_is_that_of_values, up_is_least, worked_roundings,
+    worked_texts,
+};
 pub use literal::{NumFault, parse};
 pub use literal_laws::{
     digits_and_power_decide_bounds, printed_bounds_are_read_again, texts_spell_one_literal,
