@@ -106,16 +106,16 @@ far_enough apart m n ten unit d k lost m0 small et eu k0 h = by (cases_lt d (10 
       absurd (omega arith)
 
 -- ---- parts
-pub joined_part : (lead size unit : ℕ) (lost : Bool) → 0 < unit → (lost ≡ false) ↔ ((false ≡ false) × (size % unit ≡ 0))
+pub joined_part : (lead size unit : ℕ) (lost : Bool) → 0 < unit → (lost ≡ false) ↔ ((false ≡ false) × (size - size / unit * unit ≡ 0))
     → IsPart (lead * unit + size) unit (lead + size / unit) lost
 joined_part lead size unit lost u0 h = record {
-  rest = size % unit;
+  rest = size - size / unit * unit;
   split = omega arith;
   below = omega arith;
   all = (λ e. (h.0 e).1, λ e. h.1 (refl, e));
 }
 
-pub apart_even : (lead size unit : ℕ) → 0 < unit → size < lead → size % unit ≡ 0 → IsPart (lead * unit - size) unit (lead - size / unit) false
+pub apart_even : (lead size unit : ℕ) → 0 < unit → size < lead → size - size / unit * unit ≡ 0 → IsPart (lead * unit - size) unit (lead - size / unit) false
 apart_even lead size unit u0 below z =
     let q : size / unit ≤ size = div-le_self size unit in
     record {
@@ -127,12 +127,12 @@ apart_even lead size unit u0 below z =
       difference : (lead q unit m size : ℕ) → lead ≡ m + q → size ≡ q * unit → lead * unit - size ≡ m * unit + 0
       difference lead q unit m size e f = let g = ap (λ n. n * unit) e in omega arith
 
-pub apart_odd : (lead size unit : ℕ) → 0 < unit → size < lead → (size % unit ≡ 0 → ⊥) → IsPart (lead * unit - size) unit (lead - size / unit - 1) true
+pub apart_odd : (lead size unit : ℕ) → 0 < unit → size < lead → (size - size / unit * unit ≡ 0 → ⊥) → IsPart (lead * unit - size) unit (lead - size / unit - 1) true
 apart_odd lead size unit u0 below z =
     let q : size / unit ≤ size = div-le_self size unit in
     record {
-      rest = unit - size % unit;
-      split = difference lead (size / unit) unit (lead - size / unit - 1) size (size % unit) (omega arith) (omega arith) (omega arith);
+      rest = unit - (size - size / unit * unit);
+      split = difference lead (size / unit) unit (lead - size / unit - 1) size (size - size / unit * unit) (omega arith) (omega arith) (omega arith);
       below = omega arith;
       all = (λ e. absurd (true≢false e), λ e. absurd (omega arith));
     } where
@@ -140,7 +140,7 @@ apart_odd lead size unit u0 below z =
       difference lead q unit m size r e f b = let g = ap (λ n. n * unit) e in omega arith
 
 -- the same of either, by the test for a rest
-pub apart_part : (lead size unit borrowed : ℕ) (lost : Bool) → 0 < unit → size < lead → (lost ≡ false) ↔ ((false ≡ false) × (size % unit ≡ 0))
+pub apart_part : (lead size unit borrowed : ℕ) (lost : Bool) → 0 < unit → size < lead → (lost ≡ false) ↔ ((false ≡ false) × (size - size / unit * unit ≡ 0))
     → (lost ≡ true → borrowed ≡ 1) → (lost ≡ false → borrowed ≡ 0)
     → IsPart (lead * unit - size) unit (lead - size / unit - borrowed) lost
 apart_part lead size unit borrowed true u0 below h one none =

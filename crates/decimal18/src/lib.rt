@@ -5,6 +5,8 @@ mod arithmetic;
 mod byte_list;
 mod decimal;
 mod direction;
+#[cfg(test)]
+mod edge_tests;
 mod laws;
 mod literal;
 mod literal_laws;

@@ -66,15 +66,32 @@ fn first_digits(digits: u128, places: u32, lost: bool) -> Option<First>
     ensures some { IfSome result (λ f. IsFirst digits places lost f.digits f.places f.lost) }
     ensures none { IfNone result (10 ^ (18 + places) ≤ digits) }
 {
+    if digits > MOST as u128 || places > 36 {
+        return cut(digits, places, lost);
+    }
+    Some(First {
+        digits: digits as u64,
+        places,
+        lost,
+    })
+}
+
+// The same where there may be too many digits.
+fn cut(digits: u128, places: u32, lost: bool) -> Option<First>
+    requires { places ≤ 72 }
+    ensures some { IfSome result (λ f. IsFirst digits places lost f.digits f.places f.lost) }
+    ensures none { IfNone result (10 ^ (18 + places) ≤ digits) }
+{
     let count = surplus(digits).max(places.saturating_sub(36));
     if count > places {
         return None;
     }
     let power = power_of_ten(count);
+    let kept = digits / power;
     Some(First {
-        digits: (digits / power) as u64,
+        digits: kept as u64,
         places: places - count,
-        lost: has_more(lost, digits % power),
+        lost: has_more(lost, digits - kept * power),
     })
 }
 

@@ -132,7 +132,7 @@ fn joined(lead: u128, size: u128, unit: u128, apart: bool) -> Part
     ensures { IsPart (joined apart (lead * unit) size) unit result.digits result.lost }
 {
     let digits = size / unit;
-    let lost = has_more(false, size % unit);
+    let lost = has_more(false, size - digits * unit);
     if apart {
         // The last digits of the difference are what those of `size` lack to a unit.
         let borrowed = if lost { 1 } else { 0 };

@@ -87,3 +87,29 @@ fn byte_lists(rt: HostRuntime) -> Result<(), Fail> {
     assert_eq!(rt; copy.as_slice(), b"ab".as_slice());
     Ok(())
 }
+
+#[test]
+fn order(rt: HostRuntime) -> Result<(), Fail> {
+    // Rising numbers.
+    let rising = [
+        dec(-MOST, 0)?,
+        dec(-1, 0)?,
+        dec(-MOST, 18)?,
+        dec(-1, 36)?,
+        dec(0, 0)?,
+        dec(1, 36)?,
+        dec(2, 19)?,
+        dec(5, 1)?,
+        dec(MOST, 18)?,
+        dec(1, 0)?,
+        dec(MOST, 0)?,
+    ];
+    for (i, a) in rising.iter().enumerate() {
+        for (j, b) in rising.iter().enumerate() {
+            assert_eq!(rt; a.cmp(b), i.cmp(&j), "{a:?} and {b:?}");
+            assert_eq!(rt; a < b, i < j, "{a:?} and {b:?}");
+        }
+    }
+    assert_eq!(rt; dec(-15, 1)?.negated(), dec(15, 1)?);
+    Ok(())
+}
