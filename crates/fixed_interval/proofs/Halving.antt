@@ -165,14 +165,14 @@ enclosed_by : (n : ℕ) (a : Interval) (q : ℚ) → Encloses a q → (k : ℕ) 
 enclosed_by zero a q h k k0 most = absurd (omega arith)
 enclosed_by (suc n) a q h k k0 most =
     by (λ j. enclosed_by n a q h (k / 2) (omega arith) (omega arith)) (cases_lt 1 k) (even_or_odd k) where
-  by : (1 < k → EnclosesPower (power_span a (k / 2)) (power_ℚ q (k / 2))) → (1 < k) ⊎ (k ≤ 1) → (k % 2 ≡ 0) ⊎ (k % 2 ≡ 0 → ⊥) → EnclosesPower (power_span a k) (power_ℚ q k)
-  by half (inl j) (inl e) = rw (power_even a k j e, exact_even q k e) (squared (power_span a (k / 2)) (power_ℚ q (k / 2)) (half j))
-  by half (inl j) (inr e) =
-      rw (power_odd a k j e, exact_odd q k e)
-      (multiplied (then_span (power_span a (k / 2)) square_span) a _ q (squared (power_span a (k / 2)) (power_ℚ q (k / 2)) (half j)) h)
-  by half (inr j) u =
-      let e : k ≡ 1 = omega arith in
-      rw (e, power_one a) (λ s f. rw (← same_Some a s f, ring (q ∷ []) (x0 :* Whole (pos 1)) x0 refl) h)
+      by : (1 < k → EnclosesPower (power_span a (k / 2)) (power_ℚ q (k / 2))) → (1 < k) ⊎ (k ≤ 1) → (k % 2 ≡ 0) ⊎ (k % 2 ≡ 0 → ⊥) → EnclosesPower (power_span a k) (power_ℚ q k)
+      by half (inl j) (inl e) = rw (power_even a k j e, exact_even q k e) (squared (power_span a (k / 2)) (power_ℚ q (k / 2)) (half j))
+      by half (inl j) (inr e) =
+          rw (power_odd a k j e, exact_odd q k e)
+          (multiplied (then_span (power_span a (k / 2)) square_span) a _ q (squared (power_span a (k / 2)) (power_ℚ q (k / 2)) (half j)) h)
+      by half (inr j) u =
+          let e : k ≡ 1 = omega arith in
+          rw (e, power_one a) (λ s f. rw (← same_Some a s f, ring (q ∷ []) (x0 :* Whole (pos 1)) x0 refl) h)
 
 pub power_span_encloses : (a : Interval) (q : ℚ) → Encloses a q → (k : ℕ) → 0 < k → (s : Interval) → power_span a k ≡ Some s
     → Encloses s (power_ℚ q k)

@@ -168,8 +168,10 @@ quotient_span_encloses a b s z e q r h k =
     let n = not_zero b z in
     corners_enclose (value_of a.lo) (value_of a.hi) (inv_ℚ (value_of b.lo)) (inv_ℚ (value_of b.hi)) s e q (inv_ℚ r)
     (inl (h.low, h.high))
-    (inr (inverse_falls r (value_of b.hi) (n _ k) (n _ high) (same_side b side _ _ k high) k.high,
-    inverse_falls (value_of b.lo) r (n _ low) (n _ k) (same_side b side _ _ low k) k.low))
+    (inr (
+      inverse_falls r (value_of b.hi) (n _ k) (n _ high) (same_side b side _ _ k high) k.high,
+      inverse_falls (value_of b.lo) r (n _ low) (n _ k) (same_side b side _ _ low k) k.low,
+    ))
 
 -- ---- the answer of a division
 pub quotient_by_zero : (a b : Interval) → holds_zero b ≡ true → Err ZeroDivisor ≡ quotient a b

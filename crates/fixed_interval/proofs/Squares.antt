@@ -58,7 +58,7 @@ greater_end x y h = ≤ℚ_antisym _ _ (max-≤ x x y (≤ℚ_refl x) h) (max-�
 
 pub square_without_zero : (a : Interval) → holds_zero a ≡ false
     → square_span a ≡ hull (outward (value_of a.lo *ℚ value_of a.lo) (value_of a.lo *ℚ value_of a.lo))
-        (outward (value_of a.hi *ℚ value_of a.hi) (value_of a.hi *ℚ value_of a.hi))
+    (outward (value_of a.hi *ℚ value_of a.hi) (value_of a.hi *ℚ value_of a.hi))
 square_without_zero a e =
     let low : ℚ = value_of a.lo *ℚ value_of a.lo in
     let high : ℚ = value_of a.hi *ℚ value_of a.hi in
@@ -66,7 +66,7 @@ square_without_zero a e =
 
 pub square_with_zero : (a : Interval) → holds_zero a ≡ true
     → square_span a ≡ hull (hull (outward (value_of a.lo *ℚ value_of a.lo) (value_of a.lo *ℚ value_of a.lo))
-        (outward (value_of a.hi *ℚ value_of a.hi) (value_of a.hi *ℚ value_of a.hi))) (Some (point_span zero_bound))
+    (outward (value_of a.hi *ℚ value_of a.hi) (value_of a.hi *ℚ value_of a.hi))) (Some (point_span zero_bound))
 square_with_zero a e =
     let low : ℚ = value_of a.lo *ℚ value_of a.lo in
     let high : ℚ = value_of a.hi *ℚ value_of a.hi in

@@ -28,10 +28,7 @@ pub(crate) fn hull(a: Option<Span>, b: Option<Span>) -> Option<Span>
     ensures { result ≡ hull a b }
 {
     match (a, b) {
-        (Some(a), Some(b)) => Some(Span::between(
-            lesser(a.lo(), b.lo()),
-            greater(a.hi(), b.hi()),
-        )),
+        (Some(a), Some(b)) => Some(Span::between(lesser(a.lo(), b.lo()), greater(a.hi(), b.hi()))),
         _ => None,
     }
 }

@@ -5,8 +5,8 @@ ghost use Rattle.decimal18.specs.Bound.{value_of};
 ghost use Rattle.fixed_interval.specs.Interval.{Encloses, IsOrdered, from_ends, point_span, sum_span};
 ghost use Rattle.fixed_interval.specs.Rules.{zero_bound, difference_span, negative_span};
 
-use crate::counter::Steps;
 use crate::bounds::whole_number;
+use crate::counter::Steps;
 use crate::faults::Overflow;
 use decimal18::{Dec, add_down, add_up, sub_down, sub_up};
 use std::marker::Model;

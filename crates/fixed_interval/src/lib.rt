@@ -2,11 +2,12 @@
 //! that make them.
 #![tactic(auto)]
 
+mod bounds;
 mod corners;
 mod counter;
-mod bounds;
 mod faults;
 mod interval;
+mod laws;
 mod limits;
 mod products;
 #[cfg(test)]
@@ -15,5 +16,6 @@ mod tests;
 pub use counter::Steps;
 pub use faults::{ArithFault, Overflow, Truth};
 pub use interval::{Span, add, ends, neg, point, sub, zero};
+pub use laws::{worked_spans, worked_steps};
 pub use limits::{at_most, cut, floor_at, ratio, share};
 pub use products::{div, mul, pow, sqr};

@@ -7,8 +7,8 @@ ghost use Rattle.fixed_interval.specs.Interval.{Encloses};
 ghost use Rattle.fixed_interval.specs.Extremes.{min_ℚ, max_ℚ};
 ghost use Rattle.fixed_interval.specs.Rules.{comparison, cut_span, floored_span, greatest_share, ratio_at, ratio_span, share_span};
 
-use crate::counter::Steps;
 use crate::bounds::{greater, is_at_most, lesser, whole_number};
+use crate::counter::Steps;
 use crate::faults::{Overflow, Truth};
 use crate::interval::Span;
 use decimal18::{Dec, div_down, div_up, ratio_down, ratio_up};

@@ -5,9 +5,9 @@ ghost use Rattle.fixed_interval.specs.Interval.{Encloses};
 ghost use Rattle.fixed_interval.specs.Rules.{product_span, square_span, quotient};
 ghost use Rattle.fixed_interval.specs.Powers.{power, power_span, power_steps, power_ℤ, steps_of_power};
 
+use crate::bounds::whole_number;
 use crate::corners::{holds_zero, hull, products, quotients, squares};
 use crate::counter::Steps;
-use crate::bounds::whole_number;
 use crate::faults::{ArithFault, Overflow};
 use crate::interval::{Span, point, zero};
 use std::sync::ledger::Ledger;

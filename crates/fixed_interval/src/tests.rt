@@ -1,9 +1,11 @@
 ghost use Rattle.std.specs.Prelude.{◌≡◌};
 
 use crate::{
-    Overflow, Span, Steps, add, neg, point, sub, zero,
+    ArithFault, Overflow, Span, Steps, Truth, add, at_most, cut, div, ends, floor_at, mul, neg,
+    point, pow, ratio, share, sqr, sub, zero,
 };
 use decimal18::Dec;
+use exact_fraction::Ratio;
 use std::marker::Brand;
 use std::mem::size_of;
 use std::process::Abort;
@@ -47,4 +49,96 @@ fn sums<L: Ledger>(rt: &impl Abort, blank: Blank) -> Result<(), Fail>
 fn points_and_sums(rt: HostRuntime) -> Result<(), Fail> {
     assert_eq!(rt; size_of::<Steps<Brand>>(), 0);
     sums::<Brand>(&rt, Blank::new(1))
+}
+
+fn products<L: Ledger>(rt: &impl Abort, blank: Blank) -> Result<(), Fail>
+    requires name { blank.name ≡ L.name }
+    requires parts { blank.parts ≡ L.parts }
+    requires one { L.parts ≡ 1 }
+{
+    let mut steps: Steps<L> = Steps::new(blank);
+    let least = point(decimal(1, 36)?, &mut steps);
+    let half = point(decimal(5, 1)?, &mut steps);
+    let product: Option<Span> = mul(&least, &half, &mut steps).ok();
+    assert_eq!(rt; product.map(|s| shown(&s)), Some((0, 0, 1, 36)));
+    let minus_one = point(decimal(-1, 0)?, &mut steps);
+    let three = point(decimal(3, 0)?, &mut steps);
+    let third: Option<Span> = div(&minus_one, &three, &mut steps).ok();
+    assert_eq!(rt;
+        third.map(|s| shown(&s)),
+        Some((-333_333_333_333_333_334, 18, -333_333_333_333_333_333, 18))
+    );
+    let across = ends(decimal(-2, 0)?, decimal(3, 0)?, &mut steps);
+    assert_eq!(rt;
+        div(&three, &across, &mut steps),
+        Err(ArithFault::ZeroDivisor)
+    );
+    let square: Option<Span> = sqr(&across, &mut steps).ok();
+    assert_eq!(rt; square.map(|s| shown(&s)), Some((0, 0, 9, 0)));
+    Ok(())
+}
+
+#[test]
+fn products_and_quotients(rt: HostRuntime) -> Result<(), Fail> {
+    products::<Brand>(&rt, Blank::new(1))
+}
+
+fn powers<L: Ledger>(rt: &impl Abort, blank: Blank) -> Result<(), Fail>
+    requires name { blank.name ≡ L.name }
+    requires parts { blank.parts ≡ L.parts }
+    requires one { L.parts ≡ 1 }
+{
+    let mut steps: Steps<L> = Steps::new(blank);
+    let across = ends(decimal(-2, 0)?, decimal(3, 0)?, &mut steps);
+    let square: Option<Span> = pow(&across, 2, &mut steps).ok();
+    assert_eq!(rt; square.map(|s| shown(&s)), Some((0, 0, 9, 0)));
+    let cube: Option<Span> = pow(&across, 3, &mut steps).ok();
+    assert_eq!(rt; cube.map(|s| shown(&s)), Some((-18, 0, 27, 0)));
+    assert_eq!(rt; pow(&across, -1, &mut steps), Err(ArithFault::ZeroDivisor));
+    let ten_to_the_ninth = point(decimal(1_000_000_000, 0)?, &mut steps);
+    assert_eq!(rt;
+        pow(&ten_to_the_ninth, 3, &mut steps),
+        Err(ArithFault::Overflow)
+    );
+    Ok(())
+}
+
+#[test]
+fn powers_of_spans(rt: HostRuntime) -> Result<(), Fail> {
+    powers::<Brand>(&rt, Blank::new(1))
+}
+
+fn limits<L: Ledger>(rt: &impl Abort, blank: Blank) -> Result<(), Fail>
+    requires name { blank.name ≡ L.name }
+    requires parts { blank.parts ≡ L.parts }
+    requires one { L.parts ≡ 1 }
+{
+    let mut steps: Steps<L> = Steps::new(blank);
+    let twelve_elevenths = Ratio::new(12, 11).ok_or("11 is not 0")?;
+    let rounded: Option<Span> = ratio(twelve_elevenths, 0, &mut steps).ok();
+    assert_eq!(rt;
+        rounded.map(|s| shown(&s)),
+        Some((10_909_090_909_090_909, 16, 109_090_909_090_909_091, 17))
+    );
+    let part = ends(decimal(1, 0)?, decimal(2, 0)?, &mut steps);
+    let whole = ends(decimal(3, 0)?, decimal(4, 0)?, &mut steps);
+    assert_eq!(rt;
+        shown(&share(&part, &whole, &mut steps)),
+        (25, 2, 666_666_666_666_666_667, 18)
+    );
+    assert_eq!(rt;
+        shown(&floor_at(&part, decimal(15, 1)?, &mut steps)),
+        (15, 1, 2, 0)
+    );
+    let between = cut(&whole, decimal(0, 0)?, decimal(35, 1)?, &mut steps);
+    assert_eq!(rt; shown(&between), (3, 0, 35, 1));
+    assert_eq!(rt; at_most(&part, &whole), Truth::Yes);
+    assert_eq!(rt; at_most(&whole, &part), Truth::No);
+    assert_eq!(rt; at_most(&part, &part), Truth::Unsettled);
+    Ok(())
+}
+
+#[test]
+fn raised_cut_and_shared(rt: HostRuntime) -> Result<(), Fail> {
+    limits::<Brand>(&rt, Blank::new(1))
 }

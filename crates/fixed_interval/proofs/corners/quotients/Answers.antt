@@ -11,18 +11,14 @@ returns c =
     let e = four_corners (value_of a.lo /ℚ value_of b.lo) (value_of a.lo /ℚ value_of b.hi) (value_of a.hi /ℚ value_of b.lo) (value_of a.hi /ℚ value_of b.hi) in
     cc
 
-
 pub quotient-requires : goal.quotient-requires
 quotient-requires c = rw c.lo-2.ensures.value (ends_not_zero c.args.b.now c.requires.nonzero c.lo-2.ensures.ordered).0
-
 
 pub quotient-requires-2 : goal.quotient-requires-2
 quotient-requires-2 c = rw c.hi.ensures.value (ends_not_zero c.args.b.now c.requires.nonzero c.hi.ensures.ordered).1
 
-
 pub quotient-requires-3 : goal.quotient-requires-3
 quotient-requires-3 c = rw c.lo-4.ensures.value (ends_not_zero c.args.b.now c.requires.nonzero c.lo-4.ensures.ordered).0
-
 
 pub quotient-requires-4 : goal.quotient-requires-4
 quotient-requires-4 c = rw c.hi-4.ensures.value (ends_not_zero c.args.b.now c.requires.nonzero c.hi-4.ensures.ordered).1

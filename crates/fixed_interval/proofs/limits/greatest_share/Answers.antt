@@ -18,5 +18,5 @@ returns-then-is_at_most c = rw c.whole_number.ensures
 pub returns : goal.returns
 returns c =
     let e = greatest_is_less c.args.part.now c.args.whole.now
-        (rw (← c.lo.ensures.value, ← c.hi.ensures.value, ← c.is_at_most.ensures) c.if-is_at_most.false) in
+    (rw (← c.lo.ensures.value, ← c.hi.ensures.value, ← c.is_at_most.ensures) c.if-is_at_most.false) in
     rw (← e, ← c.lo-2.ensures.value, ← c.hi-2.ensures.value) c.div_up.ensures.exact

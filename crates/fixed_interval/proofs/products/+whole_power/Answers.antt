@@ -61,7 +61,7 @@ pub returns-clause-ticks : goal.returns-clause-ticks
 returns-clause-ticks g t c =
     let above : 1 < c.args.k = omega arith in
     let ticks : c.mul.new.steps ≡ c.args.steps.now + power_steps c.args.k =
-        omega (arith, steps_odd c.args.k above c.if-k-eq0.false, c.in-Ok.ensures.ticks, c.sqr.ensures.ticks, c.mul.ensures.ticks) in
+    omega (arith, steps_odd c.args.k above c.if-k-eq0.false, c.in-Ok.ensures.ticks, c.sqr.ensures.ticks, c.mul.ensures.ticks) in
     anyway c.mul.result (λ _. c.mul.new.steps ≡ c.args.steps.now + power_steps c.args.k) (λ _. ticks)
 
 pub returns-clause-most_ticks : goal.returns-clause-most_ticks
