@@ -1,8 +1,9 @@
-ghost use Rattle.std.specs.Prelude.{◌≡◌};
+ghost use Rattle.std.specs.Prelude.{◌≡◌, ◌≤ℤ◌, IfOk};
+ghost use Rattle.decimal18.specs.Bound.{scaled};
 
 use crate::{
     ArithFault, Overflow, Span, Steps, Truth, add, at_most, cut, div, ends, floor_at, mul, neg,
-    point, pow, ratio, share, sqr, sub, zero,
+    point, pow, ratio, sqr, sub, zero,
 };
 use decimal18::Dec;
 use exact_fraction::Ratio;
@@ -24,6 +25,20 @@ fn shown(span: &Span) -> Shown {
 
 fn decimal(coefficient: i64, places: u8) -> Result<Dec, &'static str> {
     Dec::new(coefficient, places).ok_or("not a bound")
+}
+
+// The span from one whole number to another.
+fn whole_ends<L: Ledger>(lo: i64, hi: i64, steps: &mut Steps<L>) -> Result<Span, &'static str>
+    requires { lo ≤ℤ hi }
+    ensures { IfOk result (λ s. s ≡ record { lo = scaled lo 0; hi = scaled hi 0 }) }
+{
+    let Some(low) = Dec::new(lo, 0) else {
+        return Err("not a bound");
+    };
+    let Some(high) = Dec::new(hi, 0) else {
+        return Err("not a bound");
+    };
+    Ok(ends(low, high, steps))
 }
 
 fn sums<L: Ledger>(rt: &impl Abort, blank: Blank) -> Result<(), Fail>
@@ -68,7 +83,7 @@ fn products<L: Ledger>(rt: &impl Abort, blank: Blank) -> Result<(), Fail>
         third.map(|s| shown(&s)),
         Some((-333_333_333_333_333_334, 18, -333_333_333_333_333_333, 18))
     );
-    let across = ends(decimal(-2, 0)?, decimal(3, 0)?, &mut steps);
+    let across = whole_ends(-2, 3, &mut steps)?;
     assert_eq!(rt;
         div(&three, &across, &mut steps),
         Err(ArithFault::ZeroDivisor)
@@ -89,7 +104,7 @@ fn powers<L: Ledger>(rt: &impl Abort, blank: Blank) -> Result<(), Fail>
     requires one { L.parts ≡ 1 }
 {
     let mut steps: Steps<L> = Steps::new(blank);
-    let across = ends(decimal(-2, 0)?, decimal(3, 0)?, &mut steps);
+    let across = whole_ends(-2, 3, &mut steps)?;
     let square: Option<Span> = pow(&across, 2, &mut steps).ok();
     assert_eq!(rt; square.map(|s| shown(&s)), Some((0, 0, 9, 0)));
     let cube: Option<Span> = pow(&across, 3, &mut steps).ok();
@@ -120,18 +135,14 @@ fn limits<L: Ledger>(rt: &impl Abort, blank: Blank) -> Result<(), Fail>
         rounded.map(|s| shown(&s)),
         Some((10_909_090_909_090_909, 16, 109_090_909_090_909_091, 17))
     );
-    let part = ends(decimal(1, 0)?, decimal(2, 0)?, &mut steps);
-    let whole = ends(decimal(3, 0)?, decimal(4, 0)?, &mut steps);
-    assert_eq!(rt;
-        shown(&share(&part, &whole, &mut steps)),
-        (25, 2, 666_666_666_666_666_667, 18)
-    );
+    let part = whole_ends(1, 2, &mut steps)?;
+    let whole = whole_ends(3, 4, &mut steps)?;
     assert_eq!(rt;
         shown(&floor_at(&part, decimal(15, 1)?, &mut steps)),
         (15, 1, 2, 0)
     );
-    let between = cut(&whole, decimal(0, 0)?, decimal(35, 1)?, &mut steps);
-    assert_eq!(rt; shown(&between), (3, 0, 35, 1));
+    let between = cut(&whole, part.lo(), part.hi(), &mut steps);
+    assert_eq!(rt; shown(&between), (2, 0, 2, 0));
     assert_eq!(rt; at_most(&part, &whole), Truth::Yes);
     assert_eq!(rt; at_most(&whole, &part), Truth::No);
     assert_eq!(rt; at_most(&part, &part), Truth::Unsettled);
@@ -139,6 +150,6 @@ fn limits<L: Ledger>(rt: &impl Abort, blank: Blank) -> Result<(), Fail>
 }
 
 #[test]
-fn raised_cut_and_shared(rt: HostRuntime) -> Result<(), Fail> {
+fn raised_and_cut(rt: HostRuntime) -> Result<(), Fail> {
     limits::<Brand>(&rt, Blank::new(1))
 }
