@@ -5,9 +5,8 @@
 #![tactic(auto)]
 
 use decimal18::{Dec, add_down, add_up, div_down, div_up, mul_down, mul_up, sub_down, sub_up};
-use std::env;
-use std::io;
 use std::time::Instant;
+use std::{env, io};
 
 /// How often each operation is called where no word says it.
 const CALLS: u64 = 10_000_000;
