@@ -9,7 +9,7 @@ pub mod LiteralText
 pub mod LiteralRead
 pub mod TextAgain
 pub mod Answered
-pub mod Tens
+pub mod PowerTable
 pub mod Zeros
 pub mod Printing
 pub mod CutOff

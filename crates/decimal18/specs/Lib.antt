@@ -1,6 +1,7 @@
 pub mod Bound
 pub mod Down
 pub mod Digits
+pub mod Tens
 pub mod Text
 pub mod Literal
 pub mod Significand

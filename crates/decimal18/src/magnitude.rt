@@ -14,6 +14,12 @@ impl Magnitude {
         ensures same { IsWithoutZeros self.digits self.places result.digits result.places }
         ensures few { HasFewZeros result.digits result.places 1 }
     {
+        if self.places == 0 {
+            return self;
+        }
+        if self.digits % 10 != 0 {
+            return self;
+        }
         if self.digits == 0 {
             return Magnitude {
                 digits: 0,

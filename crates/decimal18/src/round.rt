@@ -5,7 +5,7 @@ ghost use Rattle.decimal18.specs.Digits.{signed_ℚ, rounded, growth, IsCutOff, 
 use crate::Dec;
 use crate::direction::Direction;
 use crate::magnitude::Magnitude;
-use crate::powers::power_of_ten;
+use crate::powers::{STEP, count_digits, power_of_ten};
 
 // The greatest number of 18 digits.
 const MOST: u64 = 999_999_999_999_999_999;
@@ -108,15 +108,10 @@ fn surplus(digits: u128) -> u32
     ensures reached { 0 < result → 10 ^ (17 + result) ≤ digits }
     ensures most { result ≤ 21 }
 {
-    let mut low = 0;
-    let mut high = 21;
-    while low < high {
-        let middle = (low + high + 1) / 2;
-        if digits >= power_of_ten(17 + middle) {
-            low = middle;
-        } else {
-            high = middle - 1;
-        }
+    let front = digits / STEP;
+    if front < STEP {
+        count_digits(front as u64)
+    } else {
+        18 + count_digits((front / STEP) as u64)
     }
-    low
 }

@@ -2,8 +2,8 @@ use Rattle.std.proofs.Common.{arith}
 use Rattle.decimal18.proofs.Zeros.{zeros_twice}
 use Rattle.decimal18.proofs.magnitude.Magnitude.without_zeros.Goals as goal
 
-pub returns-then-self-eq0-clause-same : goal.returns-then-self-eq0-clause-same
-returns-then-self-eq0-clause-same c = record { zeros = c.args.self.places; behind_point = omega arith; at_end = omega arith }
+pub returns-then-self-eq0-2-clause-same : goal.returns-then-self-eq0-2-clause-same
+returns-then-self-eq0-2-clause-same c = record { zeros = c.args.self.places; behind_point = omega arith; at_end = omega arith }
 
 pub returns-clause-same : goal.returns-clause-same
 returns-clause-same c =
