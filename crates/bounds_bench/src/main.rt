@@ -34,22 +34,42 @@ fn operands() -> Option<[Dec; 16]> {
     ])
 }
 
+fn quotient_down(a: Dec, b: Dec) -> Option<Dec> {
+    if b.coefficient() == 0 {
+        return None;
+    }
+    div_down(a, b)
+}
+
+fn quotient_up(a: Dec, b: Dec) -> Option<Dec> {
+    if b.coefficient() == 0 {
+        return None;
+    }
+    div_up(a, b)
+}
+
+// The sum of the coefficients of the results, without their signs, in 64 bits.
+fn checksum<F: Fn(Dec, Dec) -> Option<Dec>>(calls: u64, operands: &[Dec; 16], operation: F) -> u64
+    requires { F.IsAlwaysCallable operation }
+{
+    let mut sum = 0_u64;
+    for call in 0..calls {
+        let a = operands[(call % 16) as usize];
+        let b = operands[(call / 16 % 16) as usize];
+        if let Some(number) = operation(a, b) {
+            sum = sum.wrapping_add(number.coefficient().unsigned_abs());
+        }
+    }
+    sum
+}
+
 macro_rules! timed {
     ($rt:expr, $calls:expr, $operands:expr, $($operation:ident),+) => {
         $({
             let start = Instant::now(&$rt)?;
-            let mut checksum = 0_u64;
-            for call in 0..$calls {
-                let a = $operands[(call % 16) as usize];
-                let b = $operands[(call / 16 % 16) as usize];
-                if b.coefficient() != 0 {
-                    if let Some(number) = $operation(a, b) {
-                        checksum = checksum.wrapping_add(number.coefficient().unsigned_abs());
-                    }
-                }
-            }
+            let sum = checksum($calls, &$operands, $operation);
             let picoseconds = start.elapsed(&$rt)?.as_nanos() * 1000 / ($calls as u128 + 1);
-            println!($rt; "{} {}", stringify!($operation), checksum)?;
+            println!($rt; "{} {}", stringify!($operation), sum)?;
             eprintln!($rt; "{}: {} ps a call", stringify!($operation), picoseconds)?;
         })+
     };
@@ -66,6 +86,14 @@ fn main(rt: HostRuntime) -> io::Result<()> {
         return Ok(());
     };
     timed!(rt, calls, operands, add_down, add_up, sub_down, sub_up);
-    timed!(rt, calls, operands, mul_down, mul_up, div_down, div_up);
+    timed!(
+        rt,
+        calls,
+        operands,
+        mul_down,
+        mul_up,
+        quotient_down,
+        quotient_up
+    );
     Ok(())
 }
