@@ -67,7 +67,7 @@ macro_rules! timed {
     ($rt:expr, $calls:expr, $operands:expr, $($operation:ident),+) => {
         $({
             let start = Instant::now(&$rt)?;
-            let sum = checksum($calls, &$operands, $operation);
+            let sum = checksum($calls, &$operands, |a, b| $operation(a, b));
             let picoseconds = start.elapsed(&$rt)?.as_nanos() * 1000 / ($calls as u128 + 1);
             println!($rt; "{} {}", stringify!($operation), sum)?;
             eprintln!($rt; "{}: {} ps a call", stringify!($operation), picoseconds)?;
