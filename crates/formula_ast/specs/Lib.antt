@@ -1,0 +1,11 @@
+pub mod Names
+pub mod Padded
+pub mod Trees
+pub mod Tokens
+pub mod Machine
+pub mod Grammar
+pub mod Reading
+pub mod Printing
+pub mod Views
+pub mod Answers
+pub mod Rules

@@ -1,0 +1,26 @@
+-- Names of quantities: a plain one, or that of a table and that of its column, parted by a point.
+use Rattle.std.specs.Prelude.{ℕ, ◌==◌, ◌&&◌, ◌||◌, Bool, false, nat_le, List, [], ◌∷◌, length}
+use Rattle.std.specs.List.{slice_split, list_all}
+use Rattle.std.specs.Char.{is_ascii_alphabetic, is_ascii_alphanumeric}
+
+-- a byte with which a plain name may begin, and one with which it may go on
+abbrev pub begins_name : ℕ → Bool
+begins_name byte = is_ascii_alphabetic byte || byte == 95
+
+abbrev pub goes_on_name : ℕ → Bool
+goes_on_name byte = is_ascii_alphanumeric byte || byte == 95
+
+-- a plain name: a letter or `_`, then letters, digits and `_`, at most 24 bytes
+abbrev pub is_plain_name : List ℕ → Bool
+is_plain_name [] = false
+is_plain_name (byte ∷ bytes) = begins_name byte && (list_all goes_on_name bytes && nat_le (length bytes) 23)
+
+abbrev pub are_name_parts : List (List ℕ) → Bool
+are_name_parts [] = false
+are_name_parts (plain ∷ []) = is_plain_name plain
+are_name_parts (table ∷ column ∷ []) = is_plain_name table && is_plain_name column
+are_name_parts (table ∷ column ∷ other ∷ others) = false
+
+-- a name: one or two plain names, parted by a point
+abbrev pub is_name : List ℕ → Bool
+is_name text = are_name_parts (slice_split (λ byte. byte == 46) text)
