@@ -1,5 +1,5 @@
 -- Formulas, as trees of their parts: the measurement function of a quantity (JCGM 100:2008, 4.1.1).
-use Rattle.std.specs.Prelude.{ℕ, suc, ◌+◌, ℤ, not, List, [], ◌∷◌, ◌++◌, filter, bytes_eq}
+use Rattle.std.specs.Prelude.{◌≢◌, ℕ, suc, ◌+◌, ℤ, pos, negsuc, ◌≤ℤ◌, not, List, [], ◌∷◌, ◌++◌, filter, bytes_eq}
 use Rattle.decimal18.specs.Bound.{Bound}
 use Rattle.formula_ast.specs.declared.token.Sign.{Sign}
 
@@ -34,3 +34,18 @@ nodes (Variable n) = 1
 nodes (Opposite a) = suc (nodes a)
 nodes (Joined s a b) = suc (nodes a + nodes b)
 nodes (Raised a k) = suc (nodes a)
+
+-- ---- whole powers
+-- an exponent is from -9 to 9 and not 0
+pub record IsExponent (k : ℤ) : Type 0 where
+  pub least : negsuc 8 ≤ℤ k
+  pub most : k ≤ℤ pos 9
+  pub nonzero : k ≢ pos 0
+
+-- so is each exponent in the formula
+abbrev pub HasExponents : Tree → Type 0
+HasExponents (Number q) = Unit {0}
+HasExponents (Variable n) = Unit {0}
+HasExponents (Opposite a) = HasExponents a
+HasExponents (Joined s a b) = HasExponents a × HasExponents b
+HasExponents (Raised a k) = HasExponents a × IsExponent k

@@ -36,16 +36,6 @@ impl Model for Name {
 }
 
 impl Name {
-    /// The name that `text` is, and `None` exactly where it is none.
-    pub fn new(text: &[u8]) -> Option<Name>
-        ensures { result ≡ (if is_name text.now then Some text.now else None) }
-    {
-        if !is_name(text) {
-            return None;
-        }
-        Some(Name::from_bytes(text))
-    }
-
     /// The text of the name.
     pub fn as_bytes(&self) -> &[u8]
         ensures text { result.now ≡ self.now }
@@ -59,19 +49,6 @@ impl Name {
         ensures { result ≡ is_plain_name self.now }
     {
         is_plain_name(self.as_bytes())
-    }
-
-    // These bytes, held inline.
-    fn from_bytes(bytes: &[u8]) -> Name
-        requires { length bytes.now ≤ 49 }
-        ensures { result ≡ bytes.now }
-    {
-        let mut text = [0u8; 49];
-        text[..bytes.len()].copy_from_slice(bytes);
-        Name {
-            text,
-            len: bytes.len() as u8,
-        }
     }
 }
 
@@ -136,17 +113,3 @@ pub fn is_plain_name(word: &[u8]) -> bool
     begins_name(*first) && all_go_on_name(others) && others.len() < PLAIN_LIMIT
 }
 
-/// The place of the first point.
-fn find_point(text: &[u8]) -> Option<usize> {
-    text.iter().position(|byte| *byte == b'.')
-}
-
-/// Whether the text is a name.
-fn is_name(text: &[u8]) -> bool
-    ensures { result ≡ is_name text.now }
-{
-    let Some(point) = find_point(text) else {
-        return is_plain_name(text);
-    };
-    is_plain_name(&text[..point]) && is_plain_name(&text[point + 1..])
-}

@@ -1,0 +1,4 @@
+pub mod Ticks
+pub mod Parting
+pub mod Enclosing
+pub mod Slopes

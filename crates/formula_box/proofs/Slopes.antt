@@ -1,0 +1,190 @@
+-- The span of a derivative encloses the derivative.
+use Rattle.std.specs.Prelude.{◌≡◌, ℕ, zero, suc, ◌-◌, ◌<◌, ℤ, pos, negsuc, Bool, true, false, ◌||◌, cond, List, [], ◌∷◌, bytes_eq, Option, None, Some, IfSome, Result, Ok, Err, IfOk, refl}
+use Rattle.std.proofs.Common.{sym, ◌∙◌, ap, subst, arith}
+use Rattle.exact_fraction.specs.Number.{ℚ, of_ℤ, ◌+ℚ◌, ◌*ℚ◌, ◌/ℚ◌, neg_ℚ, inv_ℚ}
+use Rattle.exact_fraction.proofs.Ring.{ring, Var, Whole, Minus as Opposite_of, ◌:+◌, ◌:-◌, ◌:*◌, x0, x1, x2, x3}
+use Rattle.exact_law.specs.Sums.{power, whole_power}
+use Rattle.exact_law.specs.Model.{value, slope, unit, power_slope as exact_power_slope}
+use Rattle.decimal18.specs.Bound.{Bound, scaled, value_of}
+use Rattle.decimal18.proofs.Values.{value-whole}
+use Rattle.fixed_interval.specs.Interval.{Interval, Encloses, point_span, sum_span}
+use Rattle.fixed_interval.specs.Rules.{zero_bound, one_bound, difference_span, product_span, negative_span, quotient}
+use Rattle.fixed_interval.specs.Powers.{power_ℚ, power_span, then_span}
+use Rattle.fixed_interval.specs.declared.faults.ArithFault.{ArithFault}
+use Rattle.fixed_interval.proofs.Enclosures.{sum_span_encloses}
+use Rattle.fixed_interval.proofs.Inclusions.{difference_span_encloses, product_span_encloses, quotient_encloses}
+use Rattle.fixed_interval.proofs.Negatives.{negative_span_encloses}
+use Rattle.fixed_interval.proofs.Halving.{power_span_encloses}
+use Rattle.formula_ast.specs.Trees.{Tree, Number, Variable, Opposite, Joined, Raised, IsExponent, HasExponents}
+use Rattle.formula_ast.specs.declared.token.Sign.{Sign}
+use Rattle.formula_ast.specs.declared.token.Sign.TheVariants.{Plus, Minus, Times, Over}
+use Rattle.formula_box.specs.Values.{Answer, span_of, then_with, in_range}
+use Rattle.formula_box.specs.Slopes.{zero_span, occurs, both, divided, quotient_there, joined_slope, rising_factor, falling_factor, power_slope, there, where_used, slope_of, partial_of}
+use Rattle.formula_box.specs.Exact.{expression_of, AreEnclosed, HasValueWithin, derivative}
+use Rattle.formula_box.proofs.Enclosing.{point_encloses, one_encloses, power_same, from_holds, formula_encloses}
+
+-- a span that is there encloses q
+abbrev pub Holds : Option Interval → ℚ → Type 0
+Holds o q = IfSome o (λ s. Encloses s q)
+
+some_holds : (o : Option Interval) (q : ℚ) → ((s : Interval) → o ≡ Some s → Encloses s q) → Holds o q
+some_holds None q h = tt
+some_holds (Some s) q h = h s refl
+
+both_holds : (o p : Option Interval) (f : Interval → Interval → Option Interval) (x y z : ℚ) → Holds o x → Holds p y
+    → ((a b s : Interval) → f a b ≡ Some s → Encloses a x → Encloses b y → Encloses s z) → Holds (both o p f) z
+both_holds None p f x y z h k rule = tt
+both_holds (Some a) None f x y z h k rule = tt
+both_holds (Some a) (Some b) f x y z h k rule = some_holds (f a b) z (λ s e. rule a b s e h k)
+
+sum_holds : (o p : Option Interval) (x y : ℚ) → Holds o x → Holds p y → Holds (both o p sum_span) (x +ℚ y)
+sum_holds o p x y h k = both_holds o p sum_span x y _ h k (λ a b s e i j. sum_span_encloses a b s e x y i j)
+
+difference_holds : (o p : Option Interval) (x y : ℚ) → Holds o x → Holds p y → Holds (both o p difference_span) (x +ℚ neg_ℚ y)
+difference_holds o p x y h k = both_holds o p difference_span x y _ h k (λ a b s e i j. difference_span_encloses a b s e x y i j)
+
+product_holds : (o p : Option Interval) (x y : ℚ) → Holds o x → Holds p y → Holds (both o p product_span) (x *ℚ y)
+product_holds o p x y h k = both_holds o p product_span x y _ h k (λ a b s e i j. product_span_encloses a b s e x y i j)
+
+ok_of_divided : (r : Result Interval ArithFault) (s : Interval) → divided r ≡ Some s → r ≡ Ok s
+ok_of_divided (Err fault) s e = cc
+ok_of_divided (Ok t) s e = cc
+
+quotient_holds : (o p : Option Interval) (x y : ℚ) → Holds o x → Holds p y → Holds (both o p quotient_there) (x /ℚ y)
+quotient_holds o p x y h k =
+    both_holds o p quotient_there x y _ h k
+    (λ a b s e i j. quotient_encloses a b (Ok s) (sym (ok_of_divided (quotient a b) s e)) x y i j)
+
+power_holds : (o : Option Interval) (x : ℚ) (k : ℕ) → 0 < k → Holds o x → Holds (then_span o (λ s. power_span s k)) (power x k)
+power_holds None x k k0 h = tt
+power_holds (Some a) x k k0 h =
+    some_holds (power_span a k) _ (λ s e. subst (Encloses s) (power_same x k) (power_span_encloses a x h k k0 s e))
+
+whole_holds : (z : ℤ) → Encloses (point_span (scaled z 0)) (of_ℤ z)
+whole_holds z = subst (Encloses (point_span (scaled z 0))) (value-whole z) (point_encloses (scaled z 0))
+
+-- ---- the rules
+abbrev joined_derivative : Sign → (v w x d e : ℚ) → ℚ
+joined_derivative Plus v w x d e = d +ℚ e
+joined_derivative Minus v w x d e = d +ℚ neg_ℚ e
+joined_derivative Times v w x d e = (d *ℚ w) +ℚ (v *ℚ e)
+joined_derivative Over v w x d e = (d +ℚ neg_ℚ (x *ℚ e)) /ℚ w
+
+joined_holds : (s : Sign) (v w x d e : Option Interval) (vq wq xq dq eq : ℚ) → Holds v vq → Holds w wq → Holds x xq → Holds d dq → Holds e eq
+    → Holds (joined_slope s v w x d e) (joined_derivative s vq wq xq dq eq)
+joined_holds Plus v w x d e vq wq xq dq eq hv hw hx hd he = sum_holds d e dq eq hd he
+joined_holds Minus v w x d e vq wq xq dq eq hv hw hx hd he = difference_holds d e dq eq hd he
+joined_holds Times v w x d e vq wq xq dq eq hv hw hx hd he =
+    sum_holds _ _ _ _ (product_holds d w dq wq hd hw) (product_holds v e vq eq hv he)
+joined_holds Over v w x d e vq wq xq dq eq hv hw hx hd he =
+    quotient_holds _ w _ wq (difference_holds d _ dq _ hd (product_holds x e xq eq hx he)) hw
+
+rising_holds : (k : ℕ) (v : Option Interval) (vq : ℚ) → Holds v vq
+    → Holds (rising_factor (suc (suc k)) v) (of_ℤ (pos (suc (suc k))) *ℚ power vq (suc k))
+rising_holds k v vq h =
+    let less : suc (suc k) - 1 ≡ suc k = omega arith in
+    rw less
+    (product_holds (Some (point_span (scaled (pos (suc (suc k))) 0))) (then_span v (λ s. power_span s (suc k))) _ _
+    (whole_holds (pos (suc (suc k)))) (power_holds v vq (suc k) (omega arith) h))
+
+power_slope_holds : (k : ℤ) → IsExponent k → (v x d : Option Interval) (vq dq : ℚ) → Holds v vq → Holds x (whole_power vq k) → Holds d dq
+    → Holds (power_slope k v x d) (exact_power_slope vq k *ℚ dq)
+unfolding exact_power_slope power
+power_slope_holds (pos zero) i v x d vq dq hv hx hd = absurd (i.nonzero refl)
+power_slope_holds (pos (suc zero)) i v x d vq dq hv hx hd =
+    subst (Holds d) (ring (dq ∷ []) x0 (Whole (pos 1) :* Whole (pos 1) :* x0) refl) hd
+power_slope_holds (pos (suc (suc k))) i v x d vq dq hv hx hd =
+    product_holds (rising_factor (suc (suc k)) v) d _ dq (rising_holds k v vq hv) hd
+power_slope_holds (negsuc k) i v x d vq dq hv hx hd =
+    product_holds (falling_factor (negsuc k) v x) d _ dq
+    (quotient_holds _ v _ vq (product_holds (Some (point_span (scaled (negsuc k) 0))) x _ _ (whole_holds (negsuc k)) hx) hv) hd
+
+-- ---- a name that does not occur
+or_left : (a b : Bool) → (a || b) ≡ false → a ≡ false
+or_left false b e = refl
+or_left true b e = cc
+
+or_right : (a b : Bool) → (a || b) ≡ false → b ≡ false
+or_right false b e = e
+or_right true b e = cc
+
+joined_zero : (s : Sign) (v w x d e : ℚ) → d ≡ of_ℤ (pos 0) → e ≡ of_ℤ (pos 0) → joined_derivative s v w x d e ≡ of_ℤ (pos 0)
+joined_zero Plus v w x d e h k = rw (h, k) (ring [] (Whole (pos 0) :+ Whole (pos 0)) (Whole (pos 0)) refl)
+joined_zero Minus v w x d e h k = rw (h, k) (ring [] (Whole (pos 0) :- Whole (pos 0)) (Whole (pos 0)) refl)
+joined_zero Times v w x d e h k = rw (h, k) (ring (w ∷ v ∷ []) ((Whole (pos 0) :* x0) :+ (x1 :* Whole (pos 0))) (Whole (pos 0)) refl)
+joined_zero Over v w x d e h k =
+    rw (h, k) (ring (x ∷ inv_ℚ w ∷ []) ((Whole (pos 0) :- (x0 :* Whole (pos 0))) :* x1) (Whole (pos 0)) refl)
+
+joined_is : (v : List ℕ → ℚ) (n : List ℕ) (s : Sign) (a b : Tree) → derivative v n (Joined s a b)
+    ≡ joined_derivative s (value v (expression_of a)) (value v (expression_of b)) (value v (expression_of (Joined s a b))) (derivative v n a) (derivative v n b)
+unfolding slope
+joined_is v n Plus a b = refl
+joined_is v n Minus a b = refl
+joined_is v n Times a b = refl
+joined_is v n Over a b = refl
+
+not_used : (v : List ℕ → ℚ) (n : List ℕ) (f : Tree) → occurs n f ≡ false → derivative v n f ≡ of_ℤ (pos 0)
+unfolding slope unit
+not_used v n (Number q) h = refl
+not_used v n (Variable m) h = rw h refl
+not_used v n (Opposite a) h = rw (not_used v n a h) (ring [] (Opposite_of (Whole (pos 0))) (Whole (pos 0)) refl)
+not_used v n (Joined s a b) h =
+    joined_is v n s a b
+    ∙ joined_zero s _ _ _ _ _ (not_used v n a (or_left (occurs n a) (occurs n b) h)) (not_used v n b (or_right (occurs n a) (occurs n b) h))
+not_used v n (Raised a e) h =
+    rw (not_used v n a h) (ring (exact_power_slope (value v (expression_of a)) e ∷ []) (x0 :* Whole (pos 0)) (Whole (pos 0)) refl)
+
+-- ---- formulas
+zero_holds : Encloses zero_span (of_ℤ (pos 0))
+zero_holds = whole_holds (pos 0)
+
+where_holds : (used : Bool) (o : Option Interval) (q : ℚ) → (used ≡ false → q ≡ of_ℤ (pos 0)) → Holds o q → Holds (where_used used o) q
+where_holds true o q h k = k
+where_holds false o q h k = rw (h refl) zero_holds
+
+value_holds : (r : Answer) (v : List ℕ → ℚ) (known : List ℕ → Bool) (f : Tree) → IfOk r (HasValueWithin v known f)
+    → Holds (there r) (value v (expression_of f))
+value_holds (Err fault) v known f h = tt
+value_holds (Ok s) v known f h = h.enclosed
+
+span_holds : (given : List ℕ → Option Interval) (v : List ℕ → ℚ) (known : List ℕ → Bool) → AreEnclosed given v known
+    → (f : Tree) → HasExponents f → Holds (there (span_of given f)) (value v (expression_of f))
+unfolding span_of
+span_holds given v known all f h = value_holds _ v known f (from_holds given v known all 0 f h)
+
+opposite_holds : (o : Option Interval) (q : ℚ) → Holds o q → Holds (then_span o (λ d. Some (negative_span d))) (neg_ℚ q)
+opposite_holds None q h = tt
+opposite_holds (Some s) q h = negative_span_encloses s q h
+
+name_holds : (n m : List ℕ) (t : Bool) → bytes_eq n m ≡ t
+    → Holds (Some (cond t (point_span one_bound) zero_span)) (cond t (of_ℤ (pos 1)) (of_ℤ (pos 0)))
+name_holds n m true e = one_encloses
+name_holds n m false e = zero_holds
+
+slope_holds : (given : List ℕ → Option Interval) (v : List ℕ → ℚ) (known : List ℕ → Bool) → AreEnclosed given v known
+    → (n : List ℕ) (f : Tree) → HasExponents f → Holds (slope_of given n f) (derivative v n f)
+unfolding slope unit value
+slope_holds given v known all n (Number q) h = zero_holds
+slope_holds given v known all n (Variable m) h = name_holds n m (bytes_eq n m) refl
+slope_holds given v known all n (Opposite a) h =
+    where_holds (occurs n a) _ _ (λ e. not_used v n (Opposite a) e) (opposite_holds _ _ (slope_holds given v known all n a h))
+slope_holds given v known all n (Joined s a b) h =
+    rw (joined_is v n s a b)
+    (where_holds (occurs n a || occurs n b) _ _ (λ e. sym (joined_is v n s a b) ∙ not_used v n (Joined s a b) e)
+    (joined_holds s _ _ _ _ _ _ _ _ _ _ (span_holds given v known all a h.0) (span_holds given v known all b h.1)
+    (span_holds given v known all (Joined s a b) h) (slope_holds given v known all n a h.0) (slope_holds given v known all n b h.1)))
+slope_holds given v known all n (Raised a e) h =
+    where_holds (occurs n a) _ _ (λ z. not_used v n (Raised a e) z)
+    (power_slope_holds e h.1 _ _ _ _ _ (span_holds given v known all a h.0) (span_holds given v known all (Raised a e) h)
+    (slope_holds given v known all n a h.0))
+
+partial_ok : (r : Answer) (o : Option Interval) (s : Interval) → then_with r (λ value. in_range o) ≡ Ok s → o ≡ Some s
+partial_ok (Err fault) o s e = cc
+partial_ok (Ok t) None s e = cc
+partial_ok (Ok t) (Some u) s e = cc
+
+pub partial_encloses : (given : List ℕ → Option Interval) (v : List ℕ → ℚ) (known : List ℕ → Bool) → AreEnclosed given v known
+    → (n : List ℕ) (f : Tree) → HasExponents f → (d : Interval) → partial_of given n f ≡ Ok d → Encloses d (derivative v n f)
+unfolding partial_of
+partial_encloses given v known all n f h d e =
+    rw (partial_ok (span_of given f) (slope_of given n f) d e) at (slope_holds given v known all n f h)

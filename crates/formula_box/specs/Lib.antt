@@ -1,0 +1,5 @@
+pub mod Values
+pub mod Slopes
+pub mod Costs
+pub mod Exact
+pub mod Parts

@@ -1,0 +1,17 @@
+//! Formulas over spans: the span of a formula's value, and that of its derivative by a name.
+#![tactic(auto)]
+
+mod differentiation;
+mod evaluation;
+mod factor;
+mod fault;
+mod laws;
+mod names;
+mod operations;
+mod slope;
+
+pub use differentiation::partial;
+pub use evaluation::eval;
+pub use fault::EvalFault;
+pub use laws::{differentiation_encloses, evaluation_encloses};
+pub use names::Env;
