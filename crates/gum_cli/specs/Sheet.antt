@@ -1,16 +1,19 @@
 -- The sheet: a list of rows, the span of each and its exact value.
-use Rattle.std.specs.Prelude.{ℕ, zero, suc, Bool, if◌then◌else◌, List, [], ◌∷◌, length, Option, Some, None, bytes_eq, is_some}
+use Rattle.std.specs.Prelude.{◌≡◌, ℕ, zero, suc, Bool, true, false, if◌then◌else◌, List, [], ◌∷◌, length, map, find, Option, Some, None, Result, Ok, Err, bytes_eq, is_some, option_and_then}
+use Rattle.exact_law.specs.Model.{Row as ModelRow, Body as ModelBody, Input as ModelInput, Formula as ModelFormula, has_value, exact_value}
 use Rattle.decimal18.specs.Bound.{Bound, value_of}
-use Rattle.fixed_interval.specs.Interval.{Interval, point_span, sum_span}
-use Rattle.exact_fraction.specs.Number.{ℚ}
-use Rattle.gum_cli.specs.Formula.{Formula, Num, Var, Add, replaced, exact_value}
+use Rattle.fixed_interval.specs.Interval.{Interval, Encloses, point_span}
+use Rattle.formula_ast.specs.Trees.{Tree, uses}
+use Rattle.formula_box.specs.Values.{Answer, span_of as formula_span}
+use Rattle.formula_box.specs.Exact.{expression_of}
+use Rattle.formula_box.specs.declared.fault.EvalFault.TheVariants.{Arith, NoValue}
 use Rattle.gum_cli.specs.declared.reply.Evaluation.{Evaluation}
-use Rattle.gum_cli.specs.declared.reply.Evaluation.TheVariants.{Enclosed, Overflow}
+use Rattle.gum_cli.specs.declared.reply.Evaluation.TheVariants.{Enclosed, Fault}
 
--- an input with its estimate (GUM 4.1.4) and standard uncertainty (GUM 4.1.5), or a formula (GUM 4.1.1)
+-- an input with its estimate (JCGM 100:2008, 4.1.4) and standard uncertainty (4.1.5), or a formula (4.1.1)
 pub data Body : Type 0 where
   Input : Bound → Bound → Body
-  Function : Formula → Body
+  Function : Tree → Body
 
 pub record Row : Type 0 where
   pub name : List ℕ
@@ -24,57 +27,58 @@ body_of (row ∷ rows) n = if bytes_eq row.name n then Some row.body else body_o
 abbrev pub has_row : List Row → List ℕ → Bool
 has_row sheet n = is_some (body_of sheet n)
 
--- ---- spans: the left operand first, and the first fault decides
-abbrev pub ended : List ℕ → Option Interval → Evaluation
-ended row (Some s) = Enclosed s
-ended row None = Overflow row
+-- ---- spans
+abbrev pub span_in : Option Evaluation → Option Interval
+span_in None = None
+span_in (Some (Fault fault row)) = None
+span_in (Some (Enclosed s)) = Some s
 
-abbrev pub sum_in : List ℕ → Option Evaluation → Option Evaluation → Option Evaluation
-sum_in row (Some (Enclosed s)) (Some (Enclosed t)) = Some (ended row (sum_span s t))
-sum_in row (Some (Enclosed s)) right = right
-sum_in row left right = left
+abbrev pub is_fault : Option Evaluation → Bool
+is_fault None = false
+is_fault (Some (Fault fault row)) = true
+is_fault (Some (Enclosed s)) = false
 
--- the span of a formula of this row, where `spans` has those of names
-abbrev pub span_of_formula : (List ℕ → Option Evaluation) → List ℕ → Formula → Option Evaluation
-span_of_formula spans row (Num d) = Some (Enclosed (point_span d))
-span_of_formula spans row (Var n) = spans n
-span_of_formula spans row (Add f g) = sum_in row (span_of_formula spans row f) (span_of_formula spans row g)
+-- the fault of the first of these names that has one
+abbrev pub first_fault : (List ℕ → Option Evaluation) → List (List ℕ) → Option Evaluation
+first_fault found ns = option_and_then found (find (λ n. is_fault (found n)) ns)
 
-abbrev pub span_of_body : (List ℕ → Option Evaluation) → List ℕ → Option Body → Option Evaluation
-span_of_body spans row None = None
-span_of_body spans row (Some (Input estimate uncertainty)) = Some (Enclosed (point_span estimate))
-span_of_body spans row (Some (Function f)) = span_of_formula spans row f
+-- an operation's fault arose in this row; a name without a span hands on the fault that it has
+abbrev pub settled : (List ℕ → Option Evaluation) → List ℕ → Tree → Answer → Option Evaluation
+settled found row f (Ok s) = Some (Enclosed s)
+settled found row f (Err (Arith fault)) = Some (Fault fault row)
+settled found row f (Err (NoValue k)) = first_fault found (uses f)
 
--- the span of a name through at most this many rows, each of which uses the next
-abbrev pub span_through : List Row → ℕ → List ℕ → Option Evaluation
-span_through sheet zero n = None
-span_through sheet (suc k) n = span_of_body (span_through sheet k) n (body_of sheet n)
+-- what this row's formula evaluates to, where `found` has the evaluations of names
+abbrev pub evaluation_of_formula : (List ℕ → Option Evaluation) → List ℕ → Tree → Option Evaluation
+evaluation_of_formula found row f = settled found row f (formula_span (λ n. span_in (found n)) f)
 
--- the span of the row of this name
-abbrev pub span_of : List Row → List ℕ → Option Evaluation
-span_of sheet n = span_through sheet (length sheet) n
+abbrev pub evaluation_of_body : (List ℕ → Option Evaluation) → List ℕ → Option Body → Option Evaluation
+evaluation_of_body found row None = None
+evaluation_of_body found row (Some (Input estimate uncertainty)) = Some (Enclosed (point_span estimate))
+evaluation_of_body found row (Some (Function f)) = evaluation_of_formula found row f
 
--- ---- exact values: the expansion names inputs alone
-abbrev pub expanded_body : (List ℕ → Formula) → List ℕ → Option Body → Formula
-expanded_body expand n (Some (Function f)) = replaced expand f
-expanded_body expand n input = Var n
+-- the evaluation of a name through at most this many rows, each of which uses the next
+abbrev pub evaluation_through : List Row → ℕ → List ℕ → Option Evaluation
+evaluation_through sheet zero n = None
+evaluation_through sheet (suc k) n = evaluation_of_body (evaluation_through sheet k) n (body_of sheet n)
 
-abbrev pub expanded_through : List Row → ℕ → List ℕ → Formula
-expanded_through sheet zero n = Var n
-expanded_through sheet (suc k) n = expanded_body (expanded_through sheet k) n (body_of sheet n)
+-- the evaluation of the row of this name
+abbrev pub evaluation_of : List Row → List ℕ → Option Evaluation
+evaluation_of sheet n = evaluation_through sheet (length sheet) n
 
--- the formula of a name with each name of a formula row replaced by that row's formula, as often as there are rows
-abbrev pub expanded : List Row → List ℕ → Formula
-expanded sheet n = expanded_through sheet (length sheet) n
+-- ---- exact values
+abbrev pub model_body : Body → ModelBody (List ℕ)
+model_body (Input estimate uncertainty) = ModelInput (value_of estimate)
+model_body (Function f) = ModelFormula (expression_of f)
 
-abbrev pub estimate_in : Option Body → Option ℚ
-estimate_in (Some (Input estimate uncertainty)) = Some (value_of estimate)
-estimate_in other = None
+abbrev pub model_row : Row → ModelRow (List ℕ)
+model_row row = record { key = row.name; body = model_body row.body }
 
--- the estimate of an input
-abbrev pub estimate_of : List Row → List ℕ → Option ℚ
-estimate_of sheet n = estimate_in (body_of sheet n)
+-- the sheet as a model of the measurement
+abbrev pub model_of : List Row → List (ModelRow (List ℕ))
+model_of sheet = map model_row sheet
 
--- the exact value of a name
-abbrev pub exact_value_of : List Row → List ℕ → Option ℚ
-exact_value_of sheet n = exact_value (estimate_of sheet) (expanded sheet n)
+-- the value of the name's expanded formula is defined on this sheet, and the interval encloses it
+pub record HasValueIn (sheet : List Row) (name : List ℕ) (s : Interval) : Type 0 where
+  pub defined : has_value bytes_eq (model_of sheet) name ≡ true
+  pub enclosed : Encloses s (exact_value bytes_eq (model_of sheet) name)

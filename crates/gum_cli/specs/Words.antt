@@ -1,9 +1,7 @@
--- Lines, words, names and whole numbers in a text.
-use Rattle.std.specs.Prelude.{ℕ, ◌-◌, ◌==◌, ◌&&◌, ◌||◌, Bool, false, nat_le, nat_lt, if◌then◌else◌, List, [], ◌∷◌, length, take, pos, Option, Some, None}
-use Rattle.std.specs.List.{slice_split, list_all}
-use Rattle.std.specs.Char.{is_ascii_alphabetic, is_ascii_alphanumeric, is_ascii_digit}
-use Rattle.std.specs.Str.Parse.{digits_value}
-use Rattle.decimal18.specs.Bound.{Bound, scaled}
+-- Lines, and the words of a line.
+use Rattle.std.specs.Prelude.{ℕ, zero, suc, ◌+◌, ◌-◌, ◌==◌, Bool, not, if◌then◌else◌, List, [], ◌∷◌, length, take, drop}
+use Rattle.std.specs.List.{slice_split, prefix_len}
+use Rattle.formula_ast.specs.Tokens.{is_blank}
 
 -- the lines of a text: each ends with a line feed, but for the last, which is empty where the text ends with one
 abbrev pub lines_of : List ℕ → List (List ℕ)
@@ -13,25 +11,26 @@ lines_of text = slice_split (λ byte. byte == 10) text
 abbrev pub whole_lines_of : List ℕ → List (List ℕ)
 whole_lines_of text = take (length (lines_of text) - 1) (lines_of text)
 
--- the words of a line, parted by one space each; two spaces in a row have an empty word between them
-abbrev pub words_of : List ℕ → List (List ℕ)
-words_of line = slice_split (λ byte. byte == 32) line
+-- the line in front of its comment, which begins with the first `#`
+abbrev pub without_comment : List ℕ → List ℕ
+without_comment line = take (prefix_len (λ byte. not (byte == 35)) line) line
 
--- a byte with which a name may begin, and one with which it may go on
-abbrev pub begins_name : ℕ → Bool
-begins_name byte = is_ascii_alphabetic byte || byte == 95
+-- a word of a line and its place there, counted from 0
+pub record Word : Type 0 where
+  pub place : ℕ
+  pub text : List ℕ
 
-abbrev pub goes_on_name : ℕ → Bool
-goes_on_name byte = is_ascii_alphanumeric byte || byte == 95
+abbrev pub is_in_word : ℕ → Bool
+is_in_word byte = not (is_blank byte)
 
--- a plain name: a letter or `_`, then letters, digits and `_`, at most 24 bytes
-abbrev pub is_plain_name : List ℕ → Bool
-is_plain_name [] = false
-is_plain_name (byte ∷ bytes) = begins_name byte && (list_all goes_on_name bytes && nat_le (length bytes) 23)
+abbrev pub word_len : List ℕ → ℕ
+word_len text = prefix_len is_in_word text
 
-abbrev pub is_whole_number : List ℕ → Bool
-is_whole_number word = list_all is_ascii_digit word && (nat_lt 0 (length word) && nat_le (length word) 18)
-
--- the number that a word of 1 to 18 digits is
-abbrev pub number_of : List ℕ → Option Bound
-number_of word = if is_whole_number word then Some (scaled (pos (digits_value 10 word)) 0) else None
+-- the words of a text whose first byte has the place `at` and whose first `skip` bytes are passed; they are
+-- parted by blanks
+abbrev pub words : List ℕ → ℕ → ℕ → List Word
+words [] skip at = []
+words (byte ∷ bytes) (suc skip) at = words bytes skip (at + 1)
+words (byte ∷ bytes) zero at =
+    if is_blank byte then words bytes 0 (at + 1)
+    else record { place = at; text = take (word_len (byte ∷ bytes)) (byte ∷ bytes) } ∷ words bytes (word_len (byte ∷ bytes) - 1) (at + 1)
