@@ -1,0 +1,5 @@
+pub mod Cuts
+pub mod NameBytes
+pub mod FrontTokens
+pub mod Levels
+pub mod Guards

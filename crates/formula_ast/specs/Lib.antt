@@ -9,3 +9,5 @@ pub mod Printing
 pub mod Views
 pub mod Answers
 pub mod Rules
+pub mod Fronts
+pub mod States

@@ -4,10 +4,14 @@
 mod fault;
 mod formula;
 mod laws;
+mod lexer;
+mod machine;
 mod name;
 mod name_list;
 mod print;
 mod read;
+mod rows;
+mod rules;
 mod token;
 mod uses;
 
@@ -21,4 +25,5 @@ pub use name::{Name, is_plain_name};
 pub use name_list::NameList;
 pub use print::print_formula;
 pub use read::read_formula;
+pub use rows::{worked_formulas, worked_prints, worked_refusals};
 pub use uses::names;
