@@ -3,3 +3,5 @@ pub mod NameBytes
 pub mod FrontTokens
 pub mod Levels
 pub mod Guards
+pub mod ReadLoop
+pub mod NewNamesAll

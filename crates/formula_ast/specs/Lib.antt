@@ -11,3 +11,4 @@ pub mod Answers
 pub mod Rules
 pub mod Fronts
 pub mod States
+pub mod NewNames

@@ -43,5 +43,8 @@ pub fn read_formula(alloc: Global, text: &[u8]) -> Result<Formula, FormulaFault>
         end = at + token.len;
         rest = behind;
     }
-    finish(alloc, state, outer.as_slice())?.ok_or(FormulaFault::Syntax(end))
+    let Some(formula) = finish(alloc, state, outer.as_slice())? else {
+        return Err(FormulaFault::Syntax(end));
+    };
+    Ok(formula)
 }
