@@ -1,5 +1,5 @@
 -- The reading of a text from its front: what holds in front of each token, and behind the last.
-use Rattle.std.proofs.Common.{◌≡◌, ℕ, zero, suc, ◌+◌, ◌-◌, ◌<◌, ◌≤◌, ◌&&◌, Bool, true, false, cond, nat_le, List, [], ◌∷◌, length, drop, refl, sym, ◌∙◌, ap, subst, arith, Option, None, Some, Result, Ok, Err}
+use Rattle.std.proofs.Common.{◌≡◌, ℕ, zero, suc, ◌+◌, ◌-◌, ◌<◌, ◌≤◌, ◌==◌, ◌&&◌, Bool, true, false, cond, nat_le, List, [], ◌∷◌, length, drop, refl, sym, ◌∙◌, ap, subst, arith, Option, None, Some, Result, Ok, Err}
 use Rattle.std.proofs.lemmas.Bool.Decides.{nat_tests}
 use Rattle.formula_ast.specs.Trees.{Tree}
 use Rattle.formula_ast.specs.Tokens.{Token, tokens, len_of, kind_of}
@@ -169,3 +169,9 @@ fails_by (fault.Number f at) r e = e
 fails_by (fault.BadPower at) r e = e
 fails_by (fault.TooDeep at) r e = e
 fails_by (fault.TooMany at) r e = e
+
+-- a test for an empty text
+pub not_empty : (n : ℕ) (b : Bool) → b ≡ (n == 0) → b ≡ false → 0 < n
+not_empty zero b e f = absurd (cc)
+not_empty (suc n) b e f = omega arith
+
