@@ -63,7 +63,7 @@ impl Bytes {
     /// # Errors
     ///
     /// [`OutOfMemory`] where there is no memory for them; the list stays as it was.
-    pub(crate) fn extend_from_slice(&mut self, bytes: &[u8]) -> Result<(), OutOfMemory>
+    pub fn extend_from_slice(&mut self, bytes: &[u8]) -> Result<(), OutOfMemory>
         ensures ok { OnOk result (self.new ≡ self.old ++ bytes.now) }
         ensures err { OnErr result (self.new ≡ self.old) }
     {

@@ -9,3 +9,6 @@ pub mod Printing
 pub mod Views
 pub mod Answers
 pub mod Rules
+pub mod Fronts
+pub mod States
+pub mod NewNames

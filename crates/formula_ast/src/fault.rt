@@ -20,6 +20,11 @@ pub enum FormulaFault {
 }
 
 impl From<OutOfMemory> for FormulaFault {
+    ghost use Rattle.std.specs.Prelude.{◌≡◌};
+    ghost use Rattle.formula_ast.specs.declared.fault.FormulaFault.{FormulaFault};
+
+    ghost from_gives = { λ _ fault. fault ≡ FormulaFault.OutOfMemory };
+
     fn from(_: OutOfMemory) -> FormulaFault {
         FormulaFault::OutOfMemory
     }

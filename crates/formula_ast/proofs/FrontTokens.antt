@@ -1,0 +1,161 @@
+-- The tokens of a text, read one by one from its front.
+use Rattle.std.proofs.Common.{◌≡◌, ℕ, zero, suc, ◌+◌, ◌-◌, ◌<◌, ◌≤◌, ◌==◌, nat_le, ◌&&◌, Bool, true, false, cond, List, [], ◌∷◌, length, take, drop, get_or, refl, sym, ◌∙◌, ap, arith, length-drop, Option, None, Some}
+use Rattle.std.specs.List.{prefix_len}
+use Rattle.std.specs.Char.{is_ascii_digit}
+use Rattle.std.proofs.lemmas.List.Sums.{prefix_len-le-length}
+use Rattle.std.proofs.lemmas.Bool.{eqb-true}
+use Rattle.std.proofs.lemmas.Bool.Decides.{nat_tests}
+use Rattle.decimal18.specs.Literal.{parsed}
+use Rattle.decimal18.specs.Bound.{Bound}
+use Rattle.formula_ast.specs.Names.{begins_name, is_name}
+use Rattle.formula_ast.specs.Tokens.{is_blank, goes_on_run, literal_len, point_len, exponent_len, len_of, kind_of, is_glued, bound_in, number_kind, name_kind, mark_kind, power_of, tokens}
+use Rattle.formula_ast.specs.Fronts.{IsTight, IsSmall, IsPassed, IsFront}
+use Rattle.formula_ast.specs.Reading.{is_open, opens_next}
+use Rattle.formula_ast.specs.declared.token.Kind.{Kind}
+use Rattle.formula_ast.specs.declared.token.Kind.TheVariants.{Number, Name, Glued, Wrong}
+
+-- skipped bytes are passed
+pub tokens_skip : (text : List ℕ) (skip at : ℕ) → tokens text skip at ≡ tokens (drop skip text) 0 (at + skip)
+tokens_skip [] zero at = refl
+tokens_skip (byte ∷ bytes) zero at =
+    let e : at ≡ at + 0 = omega arith in ap (tokens (byte ∷ bytes) 0) e
+tokens_skip [] (suc skip) at = refl
+tokens_skip (byte ∷ bytes) (suc skip) at =
+    let e : at + 1 + skip ≡ at + suc skip = omega arith in
+    tokens_skip bytes skip (at + 1) ∙ ap (tokens (drop skip bytes) 0) e
+
+-- blanks are passed
+blank_passed : (byte : ℕ) (bytes : List ℕ) (n at : ℕ) (t : Bool) → is_blank byte ≡ t →
+    tokens bytes 0 (at + 1) ≡ tokens (drop n bytes) 0 (at + 1 + n) →
+    tokens (byte ∷ bytes) 0 at ≡ tokens (drop (cond t (1 + n) 0) (byte ∷ bytes)) 0 (at + cond t (1 + n) 0)
+blank_passed byte bytes n at false e h = let z : at ≡ at + 0 = omega arith in ap (tokens (byte ∷ bytes) 0) z
+blank_passed byte bytes n at true e h =
+    let more : 1 + n ≡ suc n = omega arith in
+    let z : at + 1 + n ≡ at + suc n = omega arith in
+    rw (e, more) (h ∙ ap (tokens (drop n bytes) 0) z)
+
+blanks_passed : (text : List ℕ) (at : ℕ) →
+    tokens text 0 at ≡ tokens (drop (prefix_len is_blank text) text) 0 (at + prefix_len is_blank text)
+blanks_passed [] at = refl
+blanks_passed (byte ∷ bytes) at =
+    blank_passed byte bytes (prefix_len is_blank bytes) at (is_blank byte) refl (blanks_passed bytes (at + 1))
+
+blank_tight : (byte : ℕ) (bytes : List ℕ) (n : ℕ) (t : Bool) → is_blank byte ≡ t → IsTight (drop n bytes) →
+    IsTight (drop (cond t (1 + n) 0) (byte ∷ bytes))
+blank_tight byte bytes n false e h = e
+blank_tight byte bytes n true e h = let more : 1 + n ≡ suc n = omega arith in rw more h
+
+blanks_tight : (text : List ℕ) → IsTight (drop (prefix_len is_blank text) text)
+blanks_tight [] = tt
+blanks_tight (byte ∷ bytes) = blank_tight byte bytes (prefix_len is_blank bytes) (is_blank byte) refl (blanks_tight bytes)
+
+pub passed : (text : List ℕ) → IsPassed text (drop (prefix_len is_blank text) text)
+passed text =
+    let n : ℕ = prefix_len is_blank text in
+    let within : n ≤ length text = prefix_len-le-length is_blank text in
+    let long : length (drop n text) ≡ length text - n = length-drop n text in
+    let back : length text - length (drop n text) ≡ n = omega (arith, long, within) in
+    record {
+      tight = blanks_tight text;
+      within = omega (arith, long);
+      same = λ at. rw back (blanks_passed text at);
+    }
+
+-- ---- the token at the front
+-- a name's first byte may stand in a run
+run_goes_on : (byte : ℕ) → begins_name byte ≡ true → goes_on_run byte ≡ true
+run_goes_on byte h = grind (arith, nat_tests)
+
+front_positive : (byte : ℕ) (bytes : List ℕ) (d b : Bool) → is_ascii_digit byte ≡ d → begins_name byte ≡ b →
+    0 < cond d (literal_len (byte ∷ bytes)) (cond b (prefix_len goes_on_run (byte ∷ bytes)) 1)
+front_positive byte bytes true b e f = rw e (omega arith)
+front_positive byte bytes false true e f = rw (run_goes_on byte f) (omega arith)
+front_positive byte bytes false false e f = omega arith
+
+pub some_len : (text : List ℕ) → 0 < length text → 0 < len_of text
+some_len [] h = absurd (omega arith)
+some_len (byte ∷ bytes) h = front_positive byte bytes (is_ascii_digit byte) (begins_name byte) refl refl
+
+pub front_of : (text behind : List ℕ) (len : ℕ) (kind : Kind) → 0 < length text → len ≡ len_of text → kind ≡ kind_of text →
+    len ≤ length text → IsPassed (drop len text) behind → IsFront text len kind behind
+front_of text behind len kind some long is within p =
+    let rest : length (drop len text) ≡ length text - len = length-drop len text in
+    record {
+      positive = rw long (some_len text some);
+      long = long;
+      is = is;
+      within = omega (arith, rest, p.within);
+      same = λ at. rw (← rest) (p.same at);
+    }
+
+-- ---- exponents are small
+small_cond : (t : Bool) (a b : Kind) → IsSmall a → IsSmall b → IsSmall (cond t a b)
+small_cond true a b h k = h
+small_cond false a b h k = k
+
+small_digit : (value : Option Bound) (byte : ℕ) (t : Bool) → (nat_le 49 byte && nat_le byte 57) ≡ t →
+    IsSmall (Number value (cond t (Some (byte - 48)) None))
+small_digit value byte false e = tt
+small_digit value byte true e = grind (arith, nat_tests)
+
+small_number : (value : Option Bound) (literal : List ℕ) → IsSmall (Number value (power_of literal))
+small_number value [] = tt
+small_number value (byte ∷ []) = small_digit value byte (nat_le 49 byte && nat_le byte 57) refl
+small_number value (byte ∷ other ∷ others) = tt
+
+small_mark : (byte : ℕ) → IsSmall (mark_kind byte)
+small_mark byte =
+    small_cond (byte == 43) _ _ tt (small_cond (byte == 45) _ _ tt (small_cond (byte == 42) _ _ tt (small_cond (byte == 47) _ _ tt
+    (small_cond (byte == 94) _ _ tt (small_cond (byte == 40) _ _ tt (small_cond (byte == 41) _ _ tt tt))))))
+
+small_text : (byte : ℕ) (literal behind run : List ℕ) →
+    IsSmall (cond (is_ascii_digit byte) (number_kind literal behind) (cond (begins_name byte) (name_kind run) (mark_kind byte)))
+small_text byte literal behind run =
+    small_cond (is_ascii_digit byte) _ _
+    (small_cond (is_glued behind) Glued _ tt (small_number (bound_in (parsed literal)) literal))
+    (small_cond (begins_name byte) _ _ (small_cond (is_name run) (Name run) Wrong tt tt) (small_mark byte))
+
+pub small_kind : (text : List ℕ) → IsSmall (kind_of text)
+small_kind [] = tt
+small_kind (byte ∷ bytes) =
+    let text : List ℕ = byte ∷ bytes in
+    small_text byte (take (len_of text) text) (drop (len_of text) text) (take (len_of text) text)
+
+-- ---- whether a parenthesis opens
+open_cond : (t : Bool) (a b : Kind) → is_open a ≡ false → is_open b ≡ false → is_open (cond t a b) ≡ false
+open_cond true a b h k = h
+open_cond false a b h k = k
+
+open_mark : (byte : ℕ) (t : Bool) → (byte == 40) ≡ t → t ≡ is_open (mark_kind byte)
+open_mark byte true e = let h : byte ≡ 40 = eqb-true byte 40 e in rw h refl
+open_mark byte false e = rw e (sym
+    (open_cond (byte == 43) _ _ refl (open_cond (byte == 45) _ _ refl (open_cond (byte == 42) _ _ refl (open_cond (byte == 47) _ _ refl
+    (open_cond (byte == 94) _ _ refl (open_cond (byte == 41) _ _ refl refl)))))))
+
+no_open_digit : (byte : ℕ) → is_ascii_digit byte ≡ true → (byte == 40) ≡ false
+no_open_digit byte h = grind (arith, nat_tests)
+
+no_open_name : (byte : ℕ) → begins_name byte ≡ true → (byte == 40) ≡ false
+no_open_name byte h = grind (arith, nat_tests)
+
+open_text : (byte : ℕ) (literal behind run : List ℕ) (d b : Bool) → is_ascii_digit byte ≡ d → begins_name byte ≡ b →
+    (byte == 40) ≡ is_open (cond d (number_kind literal behind) (cond b (name_kind run) (mark_kind byte)))
+open_text byte literal behind run true b e f =
+    no_open_digit byte e ∙ sym (open_cond (is_glued behind) Glued _ refl refl)
+open_text byte literal behind run false true e f =
+    no_open_name byte f ∙ sym (open_cond (is_name run) (Name run) Wrong refl refl)
+open_text byte literal behind run false false e f = open_mark byte (byte == 40) refl
+
+opens_next_kind : (text : List ℕ) (at : ℕ) → IsTight text → 0 < length text → opens_next (tokens text 0 at) ≡ is_open (kind_of text)
+opens_next_kind [] at h some = absurd (omega arith)
+opens_next_kind (byte ∷ bytes) at h some = rw h refl
+
+open_kind : (text : List ℕ) → 0 < length text → (get_or text 0 0 == 40) ≡ is_open (kind_of text)
+open_kind [] some = absurd (omega arith)
+open_kind (byte ∷ bytes) some =
+    let text : List ℕ = byte ∷ bytes in
+    open_text byte (take (len_of text) text) (drop (len_of text) text) (take (len_of text) text)
+    (is_ascii_digit byte) (begins_name byte) refl refl
+
+pub open_front : (text : List ℕ) (at : ℕ) → IsTight text → 0 < length text → (get_or text 0 0 == 40) ≡ opens_next (tokens text 0 at)
+open_front text at h some = open_kind text some ∙ sym (opens_next_kind text at h some)

@@ -1,0 +1,31 @@
+//! What holds of the grammar, the reading and the printed text together. Each function has an empty
+//! body, and its clauses are a theorem on the definitions.
+
+ghost use Rattle.std.specs.Prelude.{◌≡◌, ℕ, Bool, List, Some, None, Ok};
+ghost use Rattle.formula_ast.specs.Trees.{Tree};
+ghost use Rattle.formula_ast.specs.Grammar.{Spells, SpellsText, GoesOn};
+ghost use Rattle.formula_ast.specs.Machine.{Stage, stages, trees, first_stage};
+ghost use Rattle.formula_ast.specs.Reading.{reading_of};
+ghost use Rattle.formula_ast.specs.Printing.{print};
+ghost use Rattle.formula_ast.specs.Rules.{IsReadOrRuled};
+ghost use Rattle.formula_ast.specs.declared.token.Kind.{Kind};
+
+/// What is read as a formula spells it, what spells a formula is read as it unless a rule behind the
+/// grammar refuses it, and no tokens spell two formulas.
+pub fn reading_is_the_grammars()
+    ensures spelt { (text : List ℕ) (f : Tree) → reading_of text ≡ Ok f → SpellsText text f }
+    ensures read { (text : List ℕ) (f : Tree) → SpellsText text f → IsReadOrRuled (reading_of text) f }
+    ensures one { (ks : List Kind) (f g : Tree) → Spells ks f → Spells ks g → f ≡ g }
+{}
+
+/// The tokens that the stages of the reading let pass are exactly those with which a text of the grammar
+/// goes on. So a token is refused as `Syntax` exactly where no text of the grammar goes on with it.
+pub fn stages_are_the_prefixes_of_the_grammar()
+    ensures pass { (ks : List Kind) (s : Stage Tree) → stages trees first_stage ks ≡ Some s → GoesOn ks }
+    ensures stop { (ks : List Kind) → stages trees first_stage ks ≡ None → GoesOn ks → ⊥ }
+{}
+
+/// The printed text of a formula that was read is read as the formula again.
+pub fn printed_text_is_read_again()
+    ensures { (text : List ℕ) (f : Tree) → reading_of text ≡ Ok f → reading_of (print f) ≡ Ok f }
+{}

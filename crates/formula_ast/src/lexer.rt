@@ -1,0 +1,262 @@
+//! The tokens of a text, one by one: what stands at its front, and the rest.
+
+ghost use Rattle.std.specs.Prelude.{◌≡◌, ◌<◌, ◌≤◌, ℕ, length, drop};
+ghost use Rattle.std.specs.List.{prefix_len};
+ghost use Rattle.std.specs.Char.{is_ascii_digit};
+ghost use Rattle.decimal18.specs.Literal.{parsed};
+ghost use Rattle.formula_ast.specs.Reading.{opens_next};
+ghost use Rattle.formula_ast.specs.Tokens.{is_blank, goes_on_run, point_len, sign_len, exponent_len, literal_len, power_of, is_glued, bound_in, number_kind, name_kind, mark_kind, len_of, kind_of, tokens};
+ghost use Rattle.formula_ast.specs.Fronts.{IsFront, IsTight, IsSmall, IsPassed};
+
+use crate::name::{Name, begins_name, goes_on_name};
+use crate::token::{Kind, Sign};
+use decimal18::{Dec, parse};
+
+/// The most digits of an exponent of a literal.
+const EXPONENT_DIGITS: usize = 3;
+
+/// A token: what it is, and how many bytes it has.
+#[derive(Clone, Copy)]
+pub struct Token {
+    pub kind: Kind,
+    pub len: usize,
+}
+
+/// Whether the byte is a blank, which may stand between tokens: a space or a tab.
+fn is_blank(byte: u8) -> bool
+    ensures { result ≡ is_blank byte }
+{
+    byte == b' ' || byte == b'\t'
+}
+
+/// Whether the byte may stand in a run of letters, digits, `_` and points.
+fn goes_on_run(byte: u8) -> bool
+    ensures { result ≡ goes_on_run byte }
+{
+    goes_on_name(byte) || byte == b'.'
+}
+
+/// The number of blanks at the front.
+fn blanks_len(text: &[u8]) -> usize
+    ensures is { result ≡ prefix_len is_blank text.now }
+    ensures within { result ≤ length text.now }
+{
+    for (i, byte) in text.iter().enumerate() {
+        if !is_blank(*byte) {
+            return i;
+        }
+    }
+    text.len()
+}
+
+/// The number of digits at the front.
+fn digits_len(text: &[u8]) -> usize
+    ensures is { result ≡ prefix_len is_ascii_digit text.now }
+    ensures within { result ≤ length text.now }
+{
+    for (i, byte) in text.iter().enumerate() {
+        if !byte.is_ascii_digit() {
+            return i;
+        }
+    }
+    text.len()
+}
+
+/// The length of the run of letters, digits, `_` and points at the front.
+fn run_len(text: &[u8]) -> usize
+    ensures is { result ≡ prefix_len goes_on_run text.now }
+    ensures within { result ≤ length text.now }
+{
+    for (i, byte) in text.iter().enumerate() {
+        if !goes_on_run(*byte) {
+            return i;
+        }
+    }
+    text.len()
+}
+
+/// The length of a point and the digits behind it; 0 where there is no point or no digit behind it.
+fn point_len(text: &[u8]) -> usize
+    ensures is { result ≡ point_len text.now }
+    ensures within { result ≤ length text.now }
+{
+    let [b'.', behind @ ..] = text else {
+        return 0;
+    };
+    let digits = digits_len(behind);
+    if digits == 0 {
+        return 0;
+    }
+    1 + digits
+}
+
+/// The length of the sign of an exponent, which it may lack.
+fn sign_len(text: &[u8]) -> usize
+    ensures is { result ≡ sign_len text.now }
+    ensures within { result ≤ length text.now }
+{
+    match text {
+        [b'+', ..] => 1,
+        [b'-', ..] => 1,
+        _ => 0,
+    }
+}
+
+/// The length of the exponent of a literal; 0 where it has no digit.
+fn exponent_len(text: &[u8]) -> usize
+    ensures is { result ≡ exponent_len text.now }
+    ensures within { result ≤ length text.now }
+{
+    let [letter, behind @ ..] = text else {
+        return 0;
+    };
+    if *letter != b'e' && *letter != b'E' {
+        return 0;
+    }
+    let sign = sign_len(behind);
+    let digits = digits_len(&behind[sign..]);
+    if digits == 0 {
+        return 0;
+    }
+    1 + sign + digits.min(EXPONENT_DIGITS)
+}
+
+/// The length of the longest unsigned literal at the front of a text that begins with a digit.
+fn literal_len(text: &[u8]) -> usize
+    ensures is { result ≡ literal_len text.now }
+    ensures within { result ≤ length text.now }
+{
+    let whole = digits_len(text);
+    let rest = &text[whole..];
+    let point = point_len(rest);
+    whole + point + exponent_len(&rest[point..])
+}
+
+/// Whether a literal is directly followed by a byte that may not follow it.
+fn is_glued(behind: &[u8]) -> bool
+    ensures { result ≡ is_glued behind.now }
+{
+    let [byte, ..] = behind else {
+        return false;
+    };
+    goes_on_run(*byte)
+}
+
+/// The exponent that the text is: a single digit from 1 to 9.
+fn power_of(text: &[u8]) -> Option<u8>
+    ensures { result ≡ power_of text.now }
+{
+    match text {
+        [digit @ b'1'..=b'9'] => Some(*digit - b'0'),
+        _ => None,
+    }
+}
+
+/// The bound that the literal is.
+fn bound_of(literal: &[u8]) -> Option<Dec>
+    ensures { result ≡ bound_in (parsed literal.now) }
+{
+    match parse(literal) {
+        Ok(bound) => Some(bound),
+        Err(_) => None,
+    }
+}
+
+/// What a literal is, with this text behind it.
+fn number_kind(literal: &[u8], behind: &[u8]) -> Kind
+    ensures { result ≡ number_kind literal.now behind.now }
+{
+    if is_glued(behind) {
+        return Kind::Glued;
+    }
+    Kind::Number(bound_of(literal), power_of(literal))
+}
+
+/// What a run is that begins as a name.
+fn name_kind(run: &[u8]) -> Kind
+    ensures { result ≡ name_kind run.now }
+{
+    match Name::new(run) {
+        Some(name) => Kind::Name(name),
+        None => Kind::Wrong,
+    }
+}
+
+/// What a byte is that begins neither a number nor a name.
+fn mark_kind(byte: u8) -> Kind
+    ensures { result ≡ mark_kind byte }
+{
+    match byte {
+        b'+' => Kind::Joins(Sign::Plus),
+        b'-' => Kind::Joins(Sign::Minus),
+        b'*' => Kind::Joins(Sign::Times),
+        b'/' => Kind::Joins(Sign::Over),
+        b'^' => Kind::Hat,
+        b'(' => Kind::Open,
+        b')' => Kind::Close,
+        _ => Kind::Wrong,
+    }
+}
+
+/// The token that stands at the front.
+fn token_at_front(text: &[u8]) -> Token
+    requires { 0 < length text.now }
+    ensures len { result.len ≡ len_of text.now }
+    ensures kind { result.kind ≡ kind_of text.now }
+    ensures within { result.len ≤ length text.now }
+{
+    let first = text[0];
+    if first.is_ascii_digit() {
+        let len = literal_len(text);
+        let kind = number_kind(&text[..len], &text[len..]);
+        return Token { kind, len };
+    }
+    if begins_name(first) {
+        let len = run_len(text);
+        let kind = name_kind(&text[..len]);
+        return Token { kind, len };
+    }
+    Token {
+        kind: mark_kind(first),
+        len: 1,
+    }
+}
+
+/// The text behind so many bytes.
+fn behind(text: &[u8], len: usize) -> &[u8]
+    requires { len ≤ length text.now }
+    ensures { result.now ≡ drop len text.now }
+{
+    &text[len..]
+}
+
+/// The text behind the blanks at its front.
+pub fn skip_blanks(text: &[u8]) -> &[u8]
+    ensures { IsPassed text.now result.now }
+{
+    behind(text, blanks_len(text))
+}
+
+/// The token at the front of a text that begins with one, and the text behind it and the blanks that
+/// follow it.
+pub fn front(text: &[u8]) -> (Token, &[u8])
+    requires some { 0 < length text.now }
+    requires tight { IsTight text.now }
+    ensures front { IsFront text.now result.0.len result.0.kind result.1.now }
+    ensures tight { IsTight result.1.now }
+    ensures small { IsSmall result.0.kind }
+{
+    let token = token_at_front(text);
+    (token, skip_blanks(behind(text, token.len)))
+}
+
+/// Whether the text begins with an open parenthesis.
+pub fn opens(text: &[u8]) -> bool
+    requires { IsTight text.now }
+    ensures { (at : ℕ) → result ≡ opens_next (tokens text.now 0 at) }
+{
+    let [byte, ..] = text else {
+        return false;
+    };
+    *byte == b'('
+}

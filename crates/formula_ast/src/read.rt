@@ -1,0 +1,50 @@
+ghost use Rattle.std.specs.Prelude.{◌≡◌, IfOk};
+ghost use Rattle.formula_ast.specs.Views.{tree_of};
+ghost use Rattle.formula_ast.specs.Grammar.{SpellsText};
+ghost use Rattle.formula_ast.specs.Reading.{reading_of};
+ghost use Rattle.formula_ast.specs.Answers.{Gives};
+
+use crate::fault::FormulaFault;
+use crate::formula::Formula;
+use crate::lexer::{front, opens, skip_blanks};
+use crate::machine::{State, discard, finish, step};
+use crate::rules::{node_count, refusal, syntax_place};
+use std::alloc::Global;
+
+/// The formula that the text spells.
+///
+/// # Errors
+///
+/// The first token that breaks a rule, with its place in the text, or a want of memory.
+pub fn read_formula(alloc: Global, text: &[u8]) -> Result<Formula, FormulaFault>
+    ensures exact { Gives result (reading_of text.now) }
+    ensures spelt { IfOk result (λ f. SpellsText text.now (tree_of f)) }
+{
+    let mut state = State::first();
+    let mut outer = Vec::new(alloc);
+    let mut nodes = 0;
+    let mut end = 0;
+    let mut rest = skip_blanks(text);
+    while !rest.is_empty() {
+        let at = text.len() - rest.len();
+        let (token, behind) = front(rest);
+        let refused = refusal(&state, nodes, at, &token.kind, opens(behind));
+        if let Some(fault) = refused {
+            discard(state);
+            return Err(fault);
+        }
+        let place = syntax_place(&state, at, token.len, &token.kind);
+        let count = node_count(&state, &token.kind);
+        let Some(next) = step(alloc, state, &mut outer, &token.kind)? else {
+            return Err(FormulaFault::Syntax(place));
+        };
+        state = next;
+        nodes += count;
+        end = at + token.len;
+        rest = behind;
+    }
+    let Some(formula) = finish(alloc, state, outer.as_slice())? else {
+        return Err(FormulaFault::Syntax(end));
+    };
+    Ok(formula)
+}
