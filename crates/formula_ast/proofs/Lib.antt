@@ -1,3 +1,4 @@
 pub mod Runs
 pub mod Sound
 pub mod Complete
+pub mod Stages
