@@ -2,3 +2,4 @@ pub mod Runs
 pub mod Sound
 pub mod Complete
 pub mod Stages
+pub mod Nesting
