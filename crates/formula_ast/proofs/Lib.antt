@@ -3,3 +3,4 @@ pub mod Sound
 pub mod Complete
 pub mod Stages
 pub mod Nesting
+pub mod AgainNodes
