@@ -4,3 +4,4 @@ pub mod Complete
 pub mod Stages
 pub mod Nesting
 pub mod AgainNodes
+pub mod Printed
