@@ -5,3 +5,4 @@ pub mod Stages
 pub mod Nesting
 pub mod AgainNodes
 pub mod Printed
+pub mod PrintedNumbers
