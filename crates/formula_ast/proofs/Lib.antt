@@ -6,3 +6,4 @@ pub mod Nesting
 pub mod AgainNodes
 pub mod Printed
 pub mod PrintedNumbers
+pub mod PrintedTokens
