@@ -142,7 +142,7 @@ finish_counted (AtEnd b left x (w ∷ o)) = tt
 finish_counted (AtExponent l x minus o) = tt
 
 -- ---- whole runs
-some_is : {A : Type 0} (o : Option A) (P : A → Type 0) (x : A) → IfSome o P → o ≡ Some x → P x
+pub some_is : {A : Type 0} (o : Option A) (P : A → Type 0) (x : A) → IfSome o P → o ≡ Some x → P x
 some_is None P x h e = absurd (cc)
 some_is (Some y) P x h e =
     let same : y ≡ x = cc in

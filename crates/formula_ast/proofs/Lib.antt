@@ -7,3 +7,4 @@ pub mod AgainNodes
 pub mod Printed
 pub mod PrintedNumbers
 pub mod PrintedTokens
+pub mod Again

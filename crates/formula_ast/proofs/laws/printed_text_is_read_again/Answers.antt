@@ -1,7 +1,5 @@
-use Rattle.formula_ast.proofs.PrintedTokens.{printed_kinds}
-use Rattle.formula_ast.proofs.Printed.{prints_flat, printed_means}
-use Rattle.formula_ast.proofs.AgainNodes.{reading_again, reading_fits, reading_few}
+use Rattle.formula_ast.proofs.Again.{read_again}
 use Rattle.formula_ast.proofs.laws.printed_text_is_read_again.Goals as goal
 
 pub returns : goal.returns
-returns c = ?
+returns c = read_again
