@@ -1,5 +1,5 @@
 -- The printed text of a formula that was read is read as the formula again.
-use Rattle.std.specs.Prelude.{◌≡◌, ℕ, zero, suc, ◌+◌, ◌-◌, ◌≤◌, ◌<◌, ◌==◌, ◌&&◌, ◌||◌, Bool, true, false, cond, nat_le, ℤ, pos, neg_ℤ, unsigned_abs, List, [], ◌∷◌, ◌++◌, take, drop, Option, None, Some, IfSome, Ok, refl}
+use Rattle.std.specs.Prelude.{◌≡◌, ℕ, zero, suc, ◌+◌, ◌-◌, ◌≤◌, ◌==◌, ◌&&◌, Bool, true, false, cond, nat_le, unsigned_abs, List, [], ◌∷◌, ◌++◌, take, drop, Option, None, Some, IfSome, Ok, refl}
 use Rattle.std.proofs.Common.{sym, ap, subst, ◌∙◌, arith}
 use Rattle.std.proofs.lemmas.Bool.Decides.{nat_tests}
 use Rattle.std.specs.List.{list_all, prefix_len}
@@ -9,12 +9,11 @@ use Rattle.decimal18.specs.Literal.{parsed}
 use Rattle.decimal18.proofs.LiteralDigits.{both_true}
 use Rattle.formula_ast.specs.Names.{begins_name, is_name}
 use Rattle.formula_ast.specs.Trees.{Tree, nodes}
-use Rattle.formula_ast.specs.Tokens.{is_blank, goes_on_run, point_len, exponent_len, literal_len, bound_in, power_of, is_glued, number_kind, name_kind, mark_kind, len_of, kind_of, tokens, kinds}
-use Rattle.formula_ast.specs.Grammar.{Written, Digits, Word, Minused, Both, Powered, Group, IsGrammatical, spelling, exponent_spelling, number_of, exponent_of, meant, Spells, SpellsText}
+use Rattle.formula_ast.specs.Tokens.{is_blank, goes_on_run, literal_len, bound_in, power_of, is_glued, number_kind, name_kind, mark_kind, len_of, kind_of, tokens, kinds}
+use Rattle.formula_ast.specs.Grammar.{Written, Digits, Word, Minused, Both, Powered, Group, spelling, exponent_spelling, number_of, exponent_of, meant}
 use Rattle.formula_ast.specs.Machine.{writings, first_stage, run}
 use Rattle.formula_ast.specs.Printing.{print}
-use Rattle.formula_ast.specs.Reading.{most_nodes, reading, reading_of}
-use Rattle.formula_ast.specs.declared.token.Sign.{Sign}
+use Rattle.formula_ast.specs.Reading.{most_nodes, reading_of}
 use Rattle.formula_ast.specs.declared.token.Sign.TheVariants.{Plus, Minus, Times, Over}
 use Rattle.formula_ast.specs.declared.token.Kind.{Kind}
 use Rattle.formula_ast.specs.declared.token.Kind.TheVariants.{Number, Name, Joins, Hat, Open, Close, Glued, Wrong}
@@ -23,8 +22,8 @@ use Rattle.formula_ast.proofs.Complete.{written_again}
 use Rattle.formula_ast.proofs.Nesting.{Has, Fits}
 use Rattle.formula_ast.proofs.AgainNodes.{some_is, reading_few, reading_fits, reading_again}
 use Rattle.formula_ast.proofs.Printed.{as_written, printed_grammatical, printed_means, prints_flat}
-use Rattle.formula_ast.proofs.PrintedNumbers.{IsPrintable, starts_digit, read_printable, empty_none}
-use Rattle.formula_ast.proofs.PrintedTokens.{words, kinds_words, IsNameToken, IsNamed, IsDigit, IsRegular, printed_kinds}
+use Rattle.formula_ast.proofs.PrintedNumbers.{IsPrintable, read_printable, empty_none}
+use Rattle.formula_ast.proofs.PrintedTokens.{words, kinds_words, IsNamed, IsDigit, IsRegular, printed_kinds}
 
 -- ---- the tokens that texts have
 abbrev pub IsKindRegular : Kind → Type 0

@@ -1,8 +1,7 @@
 -- The nodes that were read before a stage, and the reading of tokens that give a formula within the limits.
-use Rattle.std.specs.Prelude.{◌≡◌, ℕ, zero, suc, ◌+◌, ◌≤◌, ◌&&◌, Bool, true, false, cond, nat_le, List, [], ◌∷◌, Option, None, Some, option_map, IfSome, Result, Ok, Err, refl}
+use Rattle.std.specs.Prelude.{◌≡◌, ℕ, zero, suc, ◌+◌, ◌≤◌, ◌&&◌, Bool, true, false, cond, nat_le, List, [], ◌∷◌, Option, None, Some, option_map, IfSome, Result, Ok, refl}
 use Rattle.std.proofs.Common.{sym, ap, subst, ◌∙◌, arith}
 use Rattle.std.proofs.lemmas.Bool.Decides.{nat_tests}
-use Rattle.decimal18.specs.Bound.{Bound}
 use Rattle.formula_ast.specs.Trees.{Tree, Opposite, nodes}
 use Rattle.formula_ast.specs.Tokens.{Token, kinds}
 use Rattle.formula_ast.specs.Grammar.{Written, meant}
@@ -297,7 +296,7 @@ then_again : (o : Option (Stage Written)) (w : Stage Written) (n place at : ℕ)
     (next : Stage Tree → Result Tree FormulaFault) (c : Written)
     → step writings w k ≡ o → StageBased w → Fits 0 c → n ≡ stage_nodes (stage_meant w) → nodes (meant c) ≤ most_nodes
     → ((v : Stage Written) → StageBased v → n + node_count (stage_meant w) k ≡ stage_nodes (stage_meant v) → run writings v (kinds ts) ≡ Some c
-        → next (stage_meant v) ≡ Ok (meant c))
+    → next (stage_meant v) ≡ Ok (meant c))
     → then_some o (λ v. run writings v (kinds ts)) ≡ Some c
     → goes_on (option_map stage_meant o) place (refusal (stage_meant w) n at k (opens_next ts)) next ≡ Ok (meant c)
 then_again None w n place at k ts next c s based fits e few all h = absurd (cc)

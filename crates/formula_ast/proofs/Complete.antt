@@ -1,13 +1,13 @@
 -- What spells a formula is accepted as it, by the machine over any parts.
-use Rattle.std.specs.Prelude.{◌≡◌, ℕ, zero, suc, ◌+◌, ◌≤◌, ◌<◌, Bool, true, false, cond, ◌&&◌, nat_le, List, [], ◌∷◌, ◌++◌, Option, None, Some, IfSome, Result, Ok, Err, refl}
-use Rattle.std.proofs.Common.{sym, ap, subst, ◌∙◌, arith, append_assoc}
+use Rattle.std.specs.Prelude.{◌≡◌, ℕ, suc, ◌+◌, ◌≤◌, ◌<◌, Bool, true, false, cond, ◌&&◌, nat_le, List, [], ◌∷◌, ◌++◌, Option, None, Some, IfSome, Result, Err, refl}
+use Rattle.std.proofs.Common.{sym, ap, ◌∙◌, arith, append_assoc}
 use mathlib.Core.List.{append-nil}
 use Rattle.decimal18.specs.Bound.{Bound}
 use Rattle.formula_ast.specs.Trees.{Tree, Opposite, Joined, Raised}
 use Rattle.formula_ast.specs.Tokens.{Token, tokens, kinds}
 use Rattle.formula_ast.specs.Grammar.{Written, Digits, Word, Minused, Both, Powered, Group, tight, rank, IsGrammatical, spelling, exponent_spelling, exponent_of, meant, Spells, SpellsText}
-use Rattle.formula_ast.specs.Machine.{Parts, trees, writings, Waiting, Stage, AtOperand, AtAtom, AtEnd, AtExponent, put, negated, factor_done, fresh, minused, first_stage, adding, multiplying, closed, signed_on, after, prefixed, exponent_minus, step, finish, then_some, stages, run}
-use Rattle.formula_ast.specs.Reading.{at_end, unless_refused, goes_on, syntax_place, or_else, operand_fault, exponent_fault, word_fault, is_too_deep, is_node, most_nodes, refusal, opens_next, node_count, reading, reading_of}
+use Rattle.formula_ast.specs.Machine.{Parts, trees, writings, Waiting, Stage, AtOperand, AtAtom, AtEnd, AtExponent, put, factor_done, fresh, minused, first_stage, adding, multiplying, signed_on, step, finish, then_some, run}
+use Rattle.formula_ast.specs.Reading.{at_end, goes_on, syntax_place, or_else, operand_fault, exponent_fault, word_fault, is_too_deep, is_node, most_nodes, refusal, opens_next, node_count, reading, reading_of}
 use Rattle.formula_ast.specs.Rules.{IsReadOrRuled}
 use Rattle.formula_ast.specs.declared.fault.FormulaFault.{FormulaFault}
 use Rattle.formula_ast.specs.declared.fault.FormulaFault.TheVariants.{Syntax, UnknownFunction, Number as NumberFault, BadPower, TooDeep, TooMany, OutOfMemory}

@@ -1,21 +1,16 @@
 -- How deep a formula nests as it is written, and the depth at the tokens of its reading.
-use Rattle.std.specs.Prelude.{◌≡◌, ℕ, zero, suc, ◌+◌, ◌≤◌, ◌&&◌, Bool, true, false, nat_le, List, [], ◌∷◌, Option, None, Some, option_map, IfSome, Result, Ok, Err, refl}
-use Rattle.std.proofs.Common.{sym, ap, subst, ◌∙◌, arith}
+use Rattle.std.specs.Prelude.{◌≡◌, ℕ, zero, suc, ◌+◌, ◌≤◌, ◌&&◌, Bool, true, false, nat_le, List, [], ◌∷◌, Option, None, Some, IfSome, refl}
+use Rattle.std.proofs.Common.{sym, subst, arith}
 use Rattle.std.proofs.lemmas.Option.{IfSome_then}
 use Rattle.std.proofs.lemmas.Bool.Decides.{nat_tests}
 use Rattle.decimal18.specs.Bound.{Bound}
-use Rattle.formula_ast.specs.Trees.{Tree}
-use Rattle.formula_ast.specs.Tokens.{Token, kinds}
 use Rattle.formula_ast.specs.Grammar.{Written, Digits, Word, Minused, Both, Powered, Group}
-use Rattle.formula_ast.specs.Machine.{trees, writings, Waiting, Stage, AtOperand, AtAtom, AtEnd, AtExponent, put, negated, factor_done, adding, multiplying, closed, signed_on, after, prefixed, exponent_minus, step, finish, then_some, run}
-use Rattle.formula_ast.specs.Reading.{deepest, operand_fault, exponent_fault, word_fault, nests, is_minus, is_too_deep, goes_on, syntax_place, refusal, opens_next, node_count, reading}
-use Rattle.formula_ast.specs.declared.fault.FormulaFault.{FormulaFault}
-use Rattle.formula_ast.specs.declared.fault.FormulaFault.TheVariants.{UnknownFunction}
+use Rattle.formula_ast.specs.Machine.{writings, Waiting, Stage, AtOperand, AtAtom, AtEnd, AtExponent, put, negated, factor_done, closed, signed_on, after, prefixed, exponent_minus, step, finish, then_some, run}
+use Rattle.formula_ast.specs.Reading.{deepest, operand_fault, exponent_fault, word_fault, is_minus, is_too_deep}
 use Rattle.formula_ast.specs.declared.token.Sign.{Sign}
 use Rattle.formula_ast.specs.declared.token.Sign.TheVariants.{Plus, Minus, Times, Over}
 use Rattle.formula_ast.specs.declared.token.Kind.{Kind}
 use Rattle.formula_ast.specs.declared.token.Kind.TheVariants.{Number, Name, Joins, Hat, Open, Close, Glued, Wrong}
-use Rattle.formula_ast.proofs.Runs.{stage_meant, step_meant}
 
 abbrev pub Has : {A : Type 0} → Option A → Type 0
 Has None = ⊥

@@ -1,18 +1,17 @@
 -- A formula as it is printed, as a formula of the grammar with its parentheses.
-use Rattle.std.specs.Prelude.{◌≡◌, ℕ, zero, suc, ◌+◌, ◌≤◌, ◌<◌, Bool, true, false, cond, nat_lt, ℤ, pos, negsuc, neg_ℤ, unsigned_abs, List, Option, None, Some, decimal, refl}
-use Rattle.std.proofs.Common.{sym, ap, subst, ◌∙◌, arith}
+use Rattle.std.specs.Prelude.{◌≡◌, ℕ, suc, ◌≤◌, Bool, true, false, cond, nat_lt, ℤ, pos, negsuc, unsigned_abs, Option, Some, decimal, refl}
+use Rattle.std.proofs.Common.{ap, ◌∙◌, arith}
 use Rattle.std.proofs.lemmas.Bool.Decides.{nat_tests}
-use Rattle.decimal18.specs.Bound.{Bound, IsBound, IsCanonical}
+use Rattle.decimal18.specs.Bound.{Bound}
 use Rattle.decimal18.specs.Text.{text_of}
 use Rattle.decimal18.specs.Literal.{parsed}
 use Rattle.formula_ast.specs.Trees.{Tree, Number, Variable, Opposite, Joined, Raised}
 use Rattle.formula_ast.specs.Tokens.{bound_in, power_of}
-use Rattle.formula_ast.specs.Grammar.{Written, Digits, Word, Minused, Both, Powered, Group, tight, rank, IsGrammatical, number_of, exponent_of, meant}
+use Rattle.formula_ast.specs.Grammar.{Written, Digits, Word, Minused, Both, Powered, Group, tight, rank, IsGrammatical, exponent_of, meant}
 use Rattle.formula_ast.specs.Printing.{binding}
-use Rattle.formula_ast.specs.Reading.{deepest}
 use Rattle.formula_ast.specs.declared.token.Sign.{Sign}
 use Rattle.formula_ast.specs.declared.token.Sign.TheVariants.{Plus, Minus, Times, Over}
-use Rattle.formula_ast.proofs.Nesting.{Has, Fits, fits_less}
+use Rattle.formula_ast.proofs.Nesting.{Fits, fits_less}
 
 -- in parentheses where it binds less tightly than its place asks for
 abbrev pub in_parentheses : ℕ → Tree → Written → Written
@@ -61,11 +60,16 @@ printed_grammatical (Number q) = tt
 printed_grammatical (Variable n) = tt
 printed_grammatical (Opposite a) =
     (guarded_rank 2 a (omega arith), guarded_grammatical (nat_lt (binding a) 2) (as_written a) (printed_grammatical a))
-printed_grammatical (Joined s a b) =
-    (guarded_rank (tight s) a (omega (arith, tight_below s)),
-    (guarded_rank (suc (tight s)) b (tight_below s),
-    (guarded_grammatical (nat_lt (binding a) (tight s)) (as_written a) (printed_grammatical a),
-    guarded_grammatical (nat_lt (binding b) (suc (tight s))) (as_written b) (printed_grammatical b))))
+printed_grammatical (Joined s a b) = (
+  guarded_rank (tight s) a (omega (arith, tight_below s)),
+  (
+    guarded_rank (suc (tight s)) b (tight_below s),
+    (
+      guarded_grammatical (nat_lt (binding a) (tight s)) (as_written a) (printed_grammatical a),
+      guarded_grammatical (nat_lt (binding b) (suc (tight s))) (as_written b) (printed_grammatical b),
+    ),
+  ),
+)
 printed_grammatical (Raised a k) =
     (guarded_rank 4 a (omega arith), guarded_grammatical (nat_lt (binding a) 4) (as_written a) (printed_grammatical a))
 

@@ -1,9 +1,9 @@
 -- The text of a number is one token, whatever stands behind it but a letter, a digit, `_` or a point; and a
 -- number that was read is an unsigned bound.
-use Rattle.std.specs.Prelude.{◌≡◌, ℕ, zero, suc, ◌+◌, ◌-◌, ◌*◌, ◌/◌, ◌%◌, ◌^◌, ◌<◌, ◌≤◌, ◌==◌, ◌&&◌, ◌||◌, Bool, true, false, cond, nat_lt, nat_le, ℤ, pos, negsuc, unsigned_abs, int_div, List, [], ◌∷◌, ◌++◌, length, take, drop, codes, decimal, Option, None, Some, option_map, IfSome, Result, Ok, Err, refl}
+use Rattle.std.specs.Prelude.{◌≡◌, ℕ, zero, suc, ◌+◌, ◌*◌, ◌/◌, ◌%◌, ◌^◌, ◌<◌, ◌==◌, Bool, true, false, cond, nat_lt, ℤ, pos, unsigned_abs, int_div, List, [], ◌∷◌, ◌++◌, length, drop, decimal, Option, None, Some, option_map, refl}
 use Rattle.std.proofs.Common.{sym, ap, subst, ◌∙◌, arith, append_assoc, length-append}
 use mathlib.Core.List.{append-nil}
-use Rattle.std.proofs.Math.Seq.{take-append_seam, drop-append_seam}
+use Rattle.std.proofs.Math.Seq.{drop-append_seam}
 use Rattle.std.proofs.Math.Nat.{div-le_self}
 use Rattle.std.proofs.lemmas.Bool.Decides.{nat_tests}
 use Rattle.std.proofs.lemmas.Fmt.{digits_decimal, decimal_nonempty}
@@ -17,7 +17,6 @@ use Rattle.decimal18.specs.Text.{last_digits, sign_of, behind_point, text_of}
 use Rattle.decimal18.specs.Literal.{Sign, Unsigned, Exponent, Literal, is_minus, raised, lowered, are_digits, is_exponent_letter, front_digits, behind_digits, front_point, behind_front_point, front_sign, behind_sign, exponent_of, unsigned_literal, literal_of, exact_of, is_bound, as_bound, in_range, read, parsed}
 use Rattle.decimal18.proofs.Canonical.{IsReduced-canonical}
 use Rattle.decimal18.proofs.LiteralDigits.{numerals, cut_true, both_true}
-use Rattle.formula_ast.specs.Names.{goes_on_name}
 use Rattle.formula_ast.specs.Tokens.{goes_on_run, with_point, point_len, exponent_len, literal_len, bound_in, is_glued}
 
 -- a number that formulas may have: an unsigned bound

@@ -1,6 +1,6 @@
 -- The tokens of the printed text are those of the formula as it is printed.
-use Rattle.std.specs.Prelude.{◌≡◌, ℕ, zero, suc, ◌+◌, ◌-◌, ◌≤◌, ◌<◌, ◌==◌, ◌&&◌, ◌||◌, Bool, true, false, cond, nat_lt, nat_le, ℤ, pos, negsuc, neg_ℤ, unsigned_abs, List, [], ◌∷◌, ◌++◌, length, take, drop, codes, decimal, Option, None, Some, IfSome, refl}
-use Rattle.std.proofs.Common.{sym, ap, subst, ◌∙◌, arith, append_assoc}
+use Rattle.std.specs.Prelude.{◌≡◌, ℕ, zero, suc, ◌+◌, ◌-◌, ◌≤◌, Bool, true, false, cond, nat_lt, nat_le, ℤ, pos, negsuc, unsigned_abs, List, [], ◌∷◌, ◌++◌, length, take, drop, codes, decimal, None, Some, refl}
+use Rattle.std.proofs.Common.{sym, ap, ◌∙◌, arith, append_assoc}
 use mathlib.Core.List.{append-nil}
 use Rattle.std.proofs.Math.Seq.{take-append_seam, drop-append_seam}
 use Rattle.std.proofs.lemmas.Bool.Decides.{nat_tests}
@@ -9,21 +9,20 @@ use Rattle.std.specs.List.{list_all, prefix_len}
 use Rattle.std.specs.Char.{is_ascii_digit}
 use Rattle.decimal18.specs.Bound.{Bound}
 use Rattle.decimal18.specs.Literal.{parsed}
-use Rattle.decimal18.specs.Text.{text_of, sign_of}
-use Rattle.decimal18.proofs.LiteralDigits.{cut_true, both_true}
+use Rattle.decimal18.specs.Text.{text_of}
+use Rattle.decimal18.proofs.LiteralDigits.{both_true}
 use Rattle.decimal18.proofs.TextAgain.{read_again}
-use Rattle.formula_ast.specs.Names.{begins_name, goes_on_name, is_name}
+use Rattle.formula_ast.specs.Names.{begins_name, is_name}
 use Rattle.formula_ast.specs.Trees.{Tree, Number, Variable, Opposite, Joined, Raised}
-use Rattle.formula_ast.specs.Tokens.{is_blank, goes_on_run, literal_len, with_point, point_len, exponent_len, bound_in, power_of, is_glued, number_kind, name_kind, mark_kind, len_of, kind_of, Token, tokens, kinds}
-use Rattle.formula_ast.specs.Grammar.{Written, Digits, Word, Minused, Both, Powered, Group, tight, spelling, exponent_spelling, number_of, exponent_of, meant}
+use Rattle.formula_ast.specs.Tokens.{is_blank, goes_on_run, literal_len, bound_in, power_of, is_glued, number_kind, name_kind, mark_kind, len_of, kind_of, Token, tokens, kinds}
+use Rattle.formula_ast.specs.Grammar.{Written, Both, Powered, Group, tight, spelling, exponent_spelling}
 use Rattle.formula_ast.specs.Printing.{binding, symbol, guarded, exponent_text, print}
 use Rattle.formula_ast.specs.declared.token.Sign.{Sign}
 use Rattle.formula_ast.specs.declared.token.Sign.TheVariants.{Plus, Minus, Times, Over}
 use Rattle.formula_ast.specs.declared.token.Kind.{Kind}
 use Rattle.formula_ast.specs.declared.token.Kind.TheVariants.{Number as NumberToken, Name, Joins, Hat, Open, Close, Glued, Wrong}
-use Rattle.formula_ast.proofs.Nesting.{Has, Fits}
 use Rattle.formula_ast.proofs.Printed.{in_parentheses, is_below, as_written}
-use Rattle.formula_ast.proofs.PrintedNumbers.{IsPrintable, run_whole, no_run, starts_digit, IsNumeral, decimal_numeral, text_numeral, read_printable, empty_none}
+use Rattle.formula_ast.proofs.PrintedNumbers.{IsPrintable, run_whole, no_run, IsNumeral, decimal_numeral, text_numeral}
 
 -- ---- what the tokens are, without their places
 abbrev pub words : List ℕ → ℕ → List Kind

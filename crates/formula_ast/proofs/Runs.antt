@@ -1,7 +1,7 @@
 -- The machine over formulas as they are written and that over formulas go together.
 use Rattle.std.specs.Prelude.{◌≡◌, ℕ, zero, suc, Bool, true, false, List, [], ◌∷◌, Option, None, Some, option_map, refl}
 use Rattle.std.proofs.Common.{ap, ◌∙◌}
-use Rattle.formula_ast.specs.Trees.{Tree, Opposite}
+use Rattle.formula_ast.specs.Trees.{Tree}
 use Rattle.formula_ast.specs.Grammar.{Written, Minused, meant}
 use Rattle.formula_ast.specs.Machine.{trees, writings, Waiting, Stage, AtOperand, AtAtom, AtEnd, AtExponent, put, negated, factor_done, adding, closed, signed_on, after, prefixed, exponent_minus, step, finish, then_some, stages, run}
 use Rattle.formula_ast.specs.declared.token.Sign.{Sign}

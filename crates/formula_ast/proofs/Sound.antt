@@ -1,19 +1,19 @@
 -- What the reading accepts is spelt by the tokens that were read.
-use Rattle.std.specs.Prelude.{◌≡◌, ℕ, zero, suc, ◌+◌, ◌≤◌, ◌<◌, Bool, true, false, List, [], ◌∷◌, ◌++◌, Option, None, Some, option_map, IfSome, Result, Ok, Err, refl}
+use Rattle.std.specs.Prelude.{◌≡◌, ℕ, zero, suc, ◌+◌, ◌≤◌, Bool, true, false, List, [], ◌∷◌, ◌++◌, Option, None, Some, option_map, IfSome, Result, Ok, refl}
 use Rattle.std.proofs.Common.{sym, ap, subst, ◌∙◌, arith, append_assoc}
 use mathlib.Core.List.{append-nil}
 use Rattle.decimal18.specs.Bound.{Bound}
 use Rattle.formula_ast.specs.Trees.{Tree}
 use Rattle.formula_ast.specs.Tokens.{Token, tokens, kinds}
-use Rattle.formula_ast.specs.Grammar.{Written, Digits, Word, Minused, Both, Powered, Group, tight, rank, IsGrammatical, spelling, exponent_spelling, meant, Spells, SpellsText}
-use Rattle.formula_ast.specs.Machine.{trees, writings, Waiting, Stage, AtOperand, AtAtom, AtEnd, AtExponent, put, negated, factor_done, fresh, minused, first_stage, adding, multiplying, closed, signed_on, after, prefixed, exponent_minus, step, finish, then_some, stages, run}
-use Rattle.formula_ast.specs.Reading.{at_end, unless_refused, goes_on, syntax_place, refusal, opens_next, node_count, reading, reading_of}
+use Rattle.formula_ast.specs.Grammar.{Written, Minused, Powered, Group, tight, rank, IsGrammatical, spelling, meant, Spells, SpellsText}
+use Rattle.formula_ast.specs.Machine.{trees, writings, Waiting, Stage, AtOperand, AtAtom, AtEnd, AtExponent, put, negated, factor_done, first_stage, closed, signed_on, after, prefixed, exponent_minus, step, finish, then_some, run}
+use Rattle.formula_ast.specs.Reading.{at_end, goes_on, syntax_place, refusal, opens_next, node_count, reading, reading_of}
 use Rattle.formula_ast.specs.declared.fault.FormulaFault.{FormulaFault}
 use Rattle.formula_ast.specs.declared.token.Sign.{Sign}
 use Rattle.formula_ast.specs.declared.token.Sign.TheVariants.{Plus, Minus, Times, Over}
 use Rattle.formula_ast.specs.declared.token.Kind.{Kind}
 use Rattle.formula_ast.specs.declared.token.Kind.TheVariants.{Number, Name, Joins, Hat, Open, Close, Glued, Wrong}
-use Rattle.formula_ast.proofs.Runs.{stage_meant, run_meant}
+use Rattle.formula_ast.proofs.Runs.{run_meant}
 
 -- ---- the tokens that were read before a stage
 abbrev pub left_told : Option (Written × Sign) → List Kind

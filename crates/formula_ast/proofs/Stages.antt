@@ -1,10 +1,10 @@
 -- The stages of the reading and the texts of the grammar: a stage stands behind tokens exactly where a
 -- text of the grammar goes on behind them.
-use Rattle.std.specs.Prelude.{◌≡◌, ℕ, Bool, List, [], ◌∷◌, ◌++◌, Option, None, Some, refl}
-use Rattle.std.proofs.Common.{sym, ◌∙◌}
+use Rattle.std.specs.Prelude.{◌≡◌, ℕ, List, [], ◌∷◌, ◌++◌, Option, None, Some, refl}
+use Rattle.std.proofs.Common.{◌∙◌}
 use Rattle.formula_ast.specs.Trees.{Tree}
 use Rattle.formula_ast.specs.Grammar.{GoesOn}
-use Rattle.formula_ast.specs.Machine.{Parts, trees, Waiting, Stage, AtOperand, AtAtom, AtEnd, AtExponent, put, factor_done, first_stage, step, finish, then_some, stages, run}
+use Rattle.formula_ast.specs.Machine.{Parts, trees, Waiting, Stage, AtOperand, AtAtom, AtEnd, AtExponent, put, factor_done, first_stage, step, then_some, stages, run}
 use Rattle.formula_ast.specs.declared.token.Sign.{Sign}
 use Rattle.formula_ast.specs.declared.token.Kind.{Kind}
 use Rattle.formula_ast.specs.declared.token.Kind.TheVariants.{Number, Close}
