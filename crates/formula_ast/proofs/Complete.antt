@@ -294,7 +294,7 @@ word_ruled (AtAtom l x o) at k opens = tt
 word_ruled (AtEnd b left x o) at k opens = tt
 word_ruled (AtExponent l x minus o) at k opens = exponent_ruled k at
 
-refusal_ruled : (s : Stage Tree) (n at : ℕ) (k : Kind) (opens : Bool) → IfSome (refusal s n at k opens) IsRuled
+pub refusal_ruled : (s : Stage Tree) (n at : ℕ) (k : Kind) (opens : Bool) → IfSome (refusal s n at k opens) IsRuled
 refusal_ruled s n at k opens =
     else_ruled (word_fault s at k opens)
     (cond (is_too_deep s k) (Some (TooDeep at)) (cond (is_node s k && nat_le most_nodes n) (Some (TooMany at)) None))

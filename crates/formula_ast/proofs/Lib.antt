@@ -8,3 +8,5 @@ pub mod Printed
 pub mod PrintedNumbers
 pub mod PrintedTokens
 pub mod Again
+pub mod NestingLimits
+pub mod SyntaxPlaces
