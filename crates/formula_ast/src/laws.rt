@@ -1,13 +1,15 @@
 //! What holds of the grammar, the reading and the printed text together. Each function has an empty
 //! body, and its clauses are a theorem on the definitions.
 
-ghost use Rattle.std.specs.Prelude.{◌≡◌, ℕ, Bool, List, Some, None, Ok};
-ghost use Rattle.formula_ast.specs.Trees.{Tree};
+ghost use Rattle.std.specs.Prelude.{◌≡◌, ◌↔◌, ℕ, List, Some, None, Ok, Err};
+ghost use Rattle.formula_ast.specs.Trees.{Tree, HasExponents};
+ghost use Rattle.formula_ast.specs.Tokens.{kinds_in};
 ghost use Rattle.formula_ast.specs.Grammar.{Spells, SpellsText, GoesOn};
 ghost use Rattle.formula_ast.specs.Machine.{Stage, stages, trees, first_stage};
 ghost use Rattle.formula_ast.specs.Reading.{reading_of};
 ghost use Rattle.formula_ast.specs.Printing.{print};
-ghost use Rattle.formula_ast.specs.Rules.{IsReadOrRuled};
+ghost use Rattle.formula_ast.specs.Rules.{IsReadOrRuled, IsFormula, written_len, IsFirstWrong};
+ghost use Rattle.formula_ast.specs.declared.fault.FormulaFault.TheVariants.{Syntax};
 ghost use Rattle.formula_ast.specs.declared.token.Kind.{Kind};
 
 /// What is read as a formula spells it, what spells a formula is read as it unless a rule behind the
@@ -28,4 +30,23 @@ pub fn stages_are_the_prefixes_of_the_grammar()
 /// The printed text of a formula that was read is read as the formula again.
 pub fn printed_text_is_read_again()
     ensures { (text : List ℕ) (f : Tree) → reading_of text ≡ Ok f → reading_of (print f) ≡ Ok f }
+{}
+
+/// A text is read as a formula exactly where it spells it and stays within the limits: its numbers are
+/// bounds, its exponents are from 1 to 9, at most 64 parentheses and prefix minuses are open at one place,
+/// and it has at most 256 nodes.
+pub fn what_spells_within_limits_is_read()
+    ensures { (text : List ℕ) (f : Tree) → (reading_of text ≡ Ok f) ↔ IsFormula text f }
+{}
+
+/// The place of a refusal as `Syntax`. Where a text of the grammar goes on behind the whole text, it is the
+/// text's length without its last blanks, and elsewhere that of the first token with which none goes on.
+pub fn syntax_is_placed_at_the_first_wrong_token()
+    ensures end { (text : List ℕ) (at : ℕ) → reading_of text ≡ Err (Syntax at) → GoesOn (kinds_in text) → at ≡ written_len text }
+    ensures token { (text : List ℕ) (at : ℕ) → reading_of text ≡ Err (Syntax at) → (GoesOn (kinds_in text) → ⊥) → IsFirstWrong text at }
+{}
+
+/// Each exponent of what was read is from -9 to 9 and not 0.
+pub fn what_is_read_has_exponents()
+    ensures { (text : List ℕ) (f : Tree) → reading_of text ≡ Ok f → HasExponents f }
 {}

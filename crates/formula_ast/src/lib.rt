@@ -20,6 +20,8 @@ pub use fault::FormulaFault;
 pub use formula::Formula;
 pub use laws::{
     printed_text_is_read_again, reading_is_the_grammars, stages_are_the_prefixes_of_the_grammar,
+    syntax_is_placed_at_the_first_wrong_token, what_is_read_has_exponents,
+    what_spells_within_limits_is_read,
 };
 pub use name::{Name, is_plain_name};
 pub use name_list::NameList;
