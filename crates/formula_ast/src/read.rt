@@ -1,4 +1,5 @@
 ghost use Rattle.std.specs.Prelude.{◌≡◌, IfOk};
+ghost use Rattle.formula_ast.specs.Trees.{HasExponents};
 ghost use Rattle.formula_ast.specs.Views.{tree_of};
 ghost use Rattle.formula_ast.specs.Grammar.{SpellsText};
 ghost use Rattle.formula_ast.specs.Reading.{reading_of};
@@ -19,6 +20,14 @@ use std::alloc::Global;
 pub fn read_formula(alloc: Global, text: &[u8]) -> Result<Formula, FormulaFault>
     ensures exact { Gives result (reading_of text.now) }
     ensures spelt { IfOk result (λ f. SpellsText text.now (tree_of f)) }
+    ensures exponents { IfOk result (λ f. HasExponents (tree_of f)) }
+{
+    read_whole(alloc, text)
+}
+
+// The formula that the text spells, read token by token.
+fn read_whole(alloc: Global, text: &[u8]) -> Result<Formula, FormulaFault>
+    ensures { Gives result (reading_of text.now) }
 {
     let mut state = State::first();
     let mut outer = Vec::new(alloc);
