@@ -39,7 +39,7 @@ both_true true true h = (refl, refl)
 both_true true false h = absurd (cc)
 both_true false b h = absurd (cc)
 
-plain_short : (text : List ℕ) → is_plain_name text ≡ true → length text ≤ 24
+pub plain_short : (text : List ℕ) → is_plain_name text ≡ true → length text ≤ 24
 plain_short [] h = omega arith
 plain_short (byte ∷ bytes) h =
     let few = both_true (list_all goes_on_name bytes) _ (both_true (begins_name byte) _ h).1 in

@@ -23,7 +23,7 @@ pub struct Token {
 }
 
 /// Whether the byte is a blank, which may stand between tokens: a space or a tab.
-fn is_blank(byte: u8) -> bool
+pub fn is_blank(byte: u8) -> bool
     ensures { result ≡ is_blank byte }
 {
     byte == b' ' || byte == b'\t'
@@ -37,7 +37,7 @@ fn goes_on_run(byte: u8) -> bool
 }
 
 /// The number of blanks at the front.
-fn blanks_len(text: &[u8]) -> usize
+pub fn blanks_len(text: &[u8]) -> usize
     ensures is { result ≡ prefix_len is_blank text.now }
     ensures within { result ≤ length text.now }
 {

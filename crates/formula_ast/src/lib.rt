@@ -8,6 +8,7 @@ mod lexer;
 mod machine;
 mod name;
 mod name_list;
+mod parting;
 mod print;
 mod read;
 mod rows;
@@ -23,8 +24,10 @@ pub use laws::{
     syntax_is_placed_at_the_first_wrong_token, what_is_read_has_exponents,
     what_spells_within_limits_is_read,
 };
+pub use lexer::{blanks_len, is_blank};
 pub use name::{Name, is_plain_name};
 pub use name_list::NameList;
+pub use parting::cut;
 pub use print::print_formula;
 pub use read::read_formula;
 pub use rows::{worked_formulas, worked_prints, worked_refusals};

@@ -1,11 +1,11 @@
-ghost use Rattle.std.specs.Prelude.{◌≡◌, ◌≤◌, ◌==◌, [], ◌∷◌, length, Some, None, if◌then◌else◌};
-ghost use Rattle.std.specs.List.{list_all, slice_split};
-ghost use Rattle.std.specs.Option.{option_map_or};
+ghost use Rattle.std.specs.Prelude.{◌≡◌, ◌≤◌, length, Some, None, if◌then◌else◌};
+ghost use Rattle.std.specs.List.{list_all};
 ghost use Rattle.formula_ast.specs.Names.{begins_name, goes_on_name, is_plain_name, is_name};
 ghost use Rattle.std.specs.Hash as fed;
 ghost use Rattle.std.specs.Cmp.Rules.{hashing};
 ghost use Rattle.std.proofs.Common.{rules};
 
+use crate::parting::cut;
 use std::hash::{Hash, Hasher};
 use std::marker::Model;
 
@@ -60,6 +60,16 @@ impl Name {
         ensures { result ≡ is_plain_name self.now }
     {
         is_plain_name(self.as_bytes())
+    }
+
+    /// The plain name that `text` is, and `None` exactly where it is none.
+    pub fn plain(text: &[u8]) -> Option<Name>
+        ensures { result ≡ (if is_plain_name text.now then Some text.now else None) }
+    {
+        if !is_plain_name(text) {
+            return None;
+        }
+        Some(Name::from_bytes(text))
     }
 
     // These bytes, held inline.
@@ -137,28 +147,15 @@ pub fn is_plain_name(word: &[u8]) -> bool
     begins_name(*first) && all_go_on_name(others) && others.len() < PLAIN_LIMIT
 }
 
-/// The bytes of `text` in front of the first point, and those behind it, where there is one.
-fn cut(text: &[u8]) -> (&[u8], Option<&[u8]>)
-    ensures { slice_split (λ byte. byte == 46) text.now
-        ≡ result.0.now ∷ option_map_or (λ rest. slice_split (λ byte. byte == 46) rest.now) result.1 [] }
-{
-    for (i, byte) in text.iter().enumerate() {
-        if *byte == b'.' {
-            return (&text[..i], Some(&text[i + 1..]));
-        }
-    }
-    (text, None)
-}
-
 /// Whether the text is a name.
 fn is_name(text: &[u8]) -> bool
     ensures { result ≡ is_name text.now }
 {
-    let (table, rest) = cut(text);
+    let (table, rest) = cut(text, b'.');
     let Some(rest) = rest else {
         return is_plain_name(table);
     };
-    let (column, others) = cut(rest);
+    let (column, others) = cut(rest, b'.');
     match others {
         Some(_) => false,
         None => is_plain_name(table) && is_plain_name(column),
