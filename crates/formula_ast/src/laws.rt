@@ -1,16 +1,19 @@
 //! What holds of the grammar, the reading and the printed text together. Each function has an empty
 //! body, and its clauses are a theorem on the definitions.
 
-ghost use Rattle.std.specs.Prelude.{◌≡◌, ◌↔◌, ℕ, List, Some, None, Ok, Err};
-ghost use Rattle.formula_ast.specs.Trees.{Tree};
+ghost use Rattle.std.specs.Prelude.{◌≡◌, ◌↔◌, ℕ, ◌++◌, pos, negsuc, List, Some, None, Ok, Err, codes, replicate};
+ghost use Rattle.decimal18.specs.Bound.{scaled};
+ghost use Rattle.decimal18.specs.declared.literal.NumFault.TheVariants.{NumberRange};
+ghost use Rattle.formula_ast.specs.Trees.{Tree, Number as Literal, Variable, Opposite, Joined, Raised};
 ghost use Rattle.formula_ast.specs.Tokens.{kinds_in};
 ghost use Rattle.formula_ast.specs.Grammar.{Spells, SpellsText, GoesOn};
 ghost use Rattle.formula_ast.specs.Machine.{Stage, stages, trees, first_stage};
 ghost use Rattle.formula_ast.specs.Reading.{reading_of};
 ghost use Rattle.formula_ast.specs.Printing.{print};
 ghost use Rattle.formula_ast.specs.Rules.{IsReadOrRuled, IsFormula, written_len, IsFirstWrong};
-ghost use Rattle.formula_ast.specs.declared.fault.FormulaFault.TheVariants.{Syntax};
+ghost use Rattle.formula_ast.specs.declared.fault.FormulaFault.TheVariants.{Syntax, UnknownFunction, Number, BadPower, TooDeep};
 ghost use Rattle.formula_ast.specs.declared.token.Kind.{Kind};
+ghost use Rattle.formula_ast.specs.declared.token.Sign.TheVariants.{Plus, Minus, Times, Over};
 
 /// What is read as a formula spells it, what spells a formula is read as it unless a rule behind the
 /// grammar refuses it, and no tokens spell two formulas.
@@ -44,4 +47,26 @@ pub fn what_spells_within_limits_is_read()
 pub fn syntax_is_placed_at_the_first_wrong_token()
     ensures end { (text : List ℕ) (at : ℕ) → reading_of text ≡ Err (Syntax at) → GoesOn (kinds_in text) → at ≡ written_len text }
     ensures token { (text : List ℕ) (at : ℕ) → reading_of text ≡ Err (Syntax at) → (GoesOn (kinds_in text) → ⊥) → IsFirstWrong text at }
+{}
+
+/// What some texts are read as, and how some formulas are printed.
+pub fn worked_formulas()
+    ensures sign_of_power { reading_of (codes "-a^2") ≡ Ok (Opposite (Raised (Variable (codes "a")) (pos 2))) }
+    ensures left_grouping { reading_of (codes "t.a-b/2*-c_1") ≡ Ok (Joined Minus (Variable (codes "t.a"))
+        (Joined Times (Joined Over (Variable (codes "b")) (Literal (scaled (pos 2) 0))) (Opposite (Variable (codes "c_1"))))) }
+    ensures blank { reading_of (codes "   ") ≡ Err (Syntax 0) }
+    ensures cut_off { reading_of (codes "1 + 2 * ") ≡ Err (Syntax 7) }
+    ensures two_numbers { reading_of (codes "2 3x") ≡ Err (Syntax 2) }
+    ensures glued { reading_of (codes "2 + 3x") ≡ Err (Syntax 5) }
+    ensures two_points { reading_of (codes "1.2.3") ≡ Err (Syntax 3) }
+    ensures four_digits { reading_of (codes "1 + 1e1234") ≡ Err (Syntax 9) }
+    ensures three_names { reading_of (codes "a.b.c(1)") ≡ Err (Syntax 0) }
+    ensures function { reading_of (codes "1 - s (1)") ≡ Err (UnknownFunction 4) }
+    ensures out_of_range { reading_of (codes "1e999") ≡ Err (Number NumberRange 0) }
+    ensures power_with_point { reading_of (codes "2^1.0") ≡ Err (BadPower 2) }
+    ensures power_of_zero { reading_of (codes "2^-0") ≡ Err (BadPower 3) }
+    ensures power_out_of_range { reading_of (codes "2^1e999") ≡ Err (BadPower 2) }
+    ensures deep { reading_of (replicate 65 40) ≡ Err (TooDeep 64) }
+    ensures printed { print (Joined Minus (Variable (codes "a")) (Joined Plus (Opposite (Literal (scaled (pos 125) 2)))
+        (Raised (Joined Times (Variable (codes "b")) (Variable (codes "c"))) (negsuc 1)))) ≡ codes "a - (-1.25 + (b * c)^-2)" }
 {}
