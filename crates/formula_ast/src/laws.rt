@@ -1,14 +1,14 @@
 //! What holds of the grammar, the reading and the printed text together. Each function has an empty
 //! body, and its clauses are a theorem on the definitions.
 
-ghost use Rattle.std.specs.Prelude.{◌≡◌, ◌↔◌, ℕ, ◌++◌, pos, negsuc, List, Some, None, Ok, Err, codes, replicate};
+ghost use Rattle.std.specs.Prelude.{◌≡◌, ◌↔◌, ℕ, ◌≤◌, pos, negsuc, List, Some, None, Ok, Err, codes, count_by, replicate};
 ghost use Rattle.decimal18.specs.Bound.{scaled};
 ghost use Rattle.decimal18.specs.declared.literal.NumFault.TheVariants.{NumberRange};
 ghost use Rattle.formula_ast.specs.Trees.{Tree, Number as Literal, Variable, Opposite, Joined, Raised};
 ghost use Rattle.formula_ast.specs.Tokens.{kinds_in};
-ghost use Rattle.formula_ast.specs.Grammar.{Spells, SpellsText, GoesOn};
+ghost use Rattle.formula_ast.specs.Grammar.{Written, IsGrammatical, spelling, Spells, SpellsText, GoesOn};
 ghost use Rattle.formula_ast.specs.Machine.{Stage, stages, trees, first_stage};
-ghost use Rattle.formula_ast.specs.Reading.{reading_of};
+ghost use Rattle.formula_ast.specs.Reading.{is_open, reading_of};
 ghost use Rattle.formula_ast.specs.Printing.{print};
 ghost use Rattle.formula_ast.specs.Rules.{IsReadOrRuled, IsFormula, written_len, IsFirstWrong};
 ghost use Rattle.formula_ast.specs.declared.fault.FormulaFault.TheVariants.{Syntax, UnknownFunction, Number, BadPower, TooDeep};
@@ -16,11 +16,12 @@ ghost use Rattle.formula_ast.specs.declared.token.Kind.{Kind};
 ghost use Rattle.formula_ast.specs.declared.token.Sign.TheVariants.{Plus, Minus, Times, Over};
 
 /// What is read as a formula spells it, what spells a formula is read as it unless a rule behind the
-/// grammar refuses it, and no tokens spell two formulas.
+/// grammar refuses it, no tokens spell two formulas, and none are written in two ways.
 pub fn reading_is_the_grammars()
     ensures spelt { (text : List ℕ) (f : Tree) → reading_of text ≡ Ok f → SpellsText text f }
     ensures read { (text : List ℕ) (f : Tree) → SpellsText text f → IsReadOrRuled (reading_of text) f }
     ensures one { (ks : List Kind) (f g : Tree) → Spells ks f → Spells ks g → f ≡ g }
+    ensures one_way { (a b : Written) → IsGrammatical a → IsGrammatical b → spelling a ≡ spelling b → a ≡ b }
 {}
 
 /// The tokens that the stages of the reading let pass are exactly those with which a text of the grammar
@@ -30,9 +31,12 @@ pub fn stages_are_the_prefixes_of_the_grammar()
     ensures stop { (ks : List Kind) → stages trees first_stage ks ≡ None → GoesOn ks → ⊥ }
 {}
 
-/// The printed text of a formula that was read is read as the formula again.
+/// The printed text of a formula that was read is read as the formula again, and no tokens that spell the
+/// formula have fewer parentheses.
 pub fn printed_text_is_read_again()
-    ensures { (text : List ℕ) (f : Tree) → reading_of text ≡ Ok f → reading_of (print f) ≡ Ok f }
+    ensures again { (text : List ℕ) (f : Tree) → reading_of text ≡ Ok f → reading_of (print f) ≡ Ok f }
+    ensures fewest { (text : List ℕ) (f : Tree) → reading_of text ≡ Ok f
+        → (ks : List Kind) → Spells ks f → count_by is_open (kinds_in (print f)) ≤ count_by is_open ks }
 {}
 
 /// A text is read as a formula exactly where it spells it and stays within the limits: its numbers are
