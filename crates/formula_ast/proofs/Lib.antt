@@ -10,3 +10,4 @@ pub mod PrintedTokens
 pub mod Again
 pub mod NestingLimits
 pub mod SyntaxPlaces
+pub mod LongestLiterals

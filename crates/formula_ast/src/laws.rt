@@ -1,11 +1,13 @@
 //! What holds of the grammar, the reading and the printed text together. Each function has an empty
 //! body, and its clauses are a theorem on the definitions.
 
-ghost use Rattle.std.specs.Prelude.{◌≡◌, ◌↔◌, ℕ, ◌≤◌, pos, negsuc, List, Some, None, Ok, Err, codes, count_by, replicate};
+ghost use Rattle.std.specs.Prelude.{◌≡◌, ◌↔◌, ℕ, ◌≤◌, true, pos, negsuc, List, ◌∷◌, length, take, Some, None, IsSome, Ok, Err, codes, count_by, replicate};
+ghost use Rattle.std.specs.Char.{is_ascii_digit};
+ghost use Rattle.decimal18.specs.Literal.{literal_of};
 ghost use Rattle.decimal18.specs.Bound.{scaled};
 ghost use Rattle.decimal18.specs.declared.literal.NumFault.TheVariants.{NumberRange};
 ghost use Rattle.formula_ast.specs.Trees.{Tree, Number as Literal, Variable, Opposite, Joined, Raised};
-ghost use Rattle.formula_ast.specs.Tokens.{kinds_in};
+ghost use Rattle.formula_ast.specs.Tokens.{literal_len, kinds_in};
 ghost use Rattle.formula_ast.specs.Grammar.{Written, IsGrammatical, spelling, Spells, SpellsText, GoesOn};
 ghost use Rattle.formula_ast.specs.Machine.{Stage, stages, trees, first_stage};
 ghost use Rattle.formula_ast.specs.Reading.{is_open, reading_of};
@@ -51,6 +53,14 @@ pub fn what_spells_within_limits_is_read()
 pub fn syntax_is_placed_at_the_first_wrong_token()
     ensures end { (text : List ℕ) (at : ℕ) → reading_of text ≡ Err (Syntax at) → GoesOn (kinds_in text) → at ≡ written_len text }
     ensures token { (text : List ℕ) (at : ℕ) → reading_of text ≡ Err (Syntax at) → (GoesOn (kinds_in text) → ⊥) → IsFirstWrong text at }
+{}
+
+/// The number at the front of a text that begins with a digit is the longest literal there.
+pub fn number_tokens_are_longest_literals()
+    ensures literal { (byte : ℕ) (bytes : List ℕ) → is_ascii_digit byte ≡ true
+        → IsSome (literal_of (take (literal_len (byte ∷ bytes)) (byte ∷ bytes))) }
+    ensures longest { (byte : ℕ) (bytes : List ℕ) (n : ℕ) → is_ascii_digit byte ≡ true → n ≤ length (byte ∷ bytes)
+        → IsSome (literal_of (take n (byte ∷ bytes))) → n ≤ literal_len (byte ∷ bytes) }
 {}
 
 /// What some texts are read as, and how some formulas are printed.
