@@ -1,6 +1,7 @@
 -- The printed text of a formula that was read is read as the formula again.
-use Rattle.std.specs.Prelude.{◌≡◌, ℕ, zero, suc, ◌+◌, ◌-◌, ◌≤◌, ◌==◌, ◌&&◌, Bool, true, false, cond, nat_le, unsigned_abs, List, [], ◌∷◌, ◌++◌, take, drop, Option, None, Some, IfSome, Ok, refl}
+use Rattle.std.specs.Prelude.{◌≡◌, ℕ, zero, suc, ◌+◌, ◌-◌, ◌≤◌, ◌==◌, ◌&&◌, Bool, true, false, cond, nat_le, unsigned_abs, List, [], ◌∷◌, ◌++◌, take, drop, Option, None, Some, IfSome, count_by, Ok, refl}
 use Rattle.std.proofs.Common.{sym, ap, subst, ◌∙◌, arith}
+use Rattle.std.proofs.lemmas.List.Sums.{sum_by-append}
 use Rattle.std.proofs.lemmas.Bool.Decides.{nat_tests}
 use Rattle.std.specs.List.{list_all, prefix_len}
 use Rattle.std.specs.Char.{is_ascii_digit}
@@ -9,11 +10,11 @@ use Rattle.decimal18.specs.Literal.{parsed}
 use Rattle.decimal18.proofs.LiteralDigits.{both_true}
 use Rattle.formula_ast.specs.Names.{begins_name, is_name}
 use Rattle.formula_ast.specs.Trees.{Tree, nodes}
-use Rattle.formula_ast.specs.Tokens.{is_blank, goes_on_run, literal_len, bound_in, power_of, is_glued, number_kind, name_kind, mark_kind, len_of, kind_of, tokens, kinds}
-use Rattle.formula_ast.specs.Grammar.{SpellsText, Written, Digits, Word, Minused, Both, Powered, Group, spelling, exponent_spelling, number_of, exponent_of, meant}
+use Rattle.formula_ast.specs.Tokens.{is_blank, goes_on_run, literal_len, bound_in, power_of, is_glued, number_kind, name_kind, mark_kind, len_of, kind_of, tokens, kinds, kinds_in}
+use Rattle.formula_ast.specs.Grammar.{Written, Digits, Word, Minused, Both, Powered, Group, spelling, exponent_spelling, number_of, exponent_of, meant, Spells, SpellsText}
 use Rattle.formula_ast.specs.Machine.{writings, first_stage, run}
 use Rattle.formula_ast.specs.Printing.{print}
-use Rattle.formula_ast.specs.Reading.{most_nodes, reading_of}
+use Rattle.formula_ast.specs.Reading.{is_open, most_nodes, reading_of}
 use Rattle.formula_ast.specs.declared.token.Sign.TheVariants.{Plus, Minus, Times, Over}
 use Rattle.formula_ast.specs.declared.token.Kind.{Kind}
 use Rattle.formula_ast.specs.declared.token.Kind.TheVariants.{Number, Name, Joins, Hat, Open, Close, Glued, Wrong}
@@ -21,7 +22,7 @@ use Rattle.formula_ast.proofs.Sound.{read_spelt}
 use Rattle.formula_ast.proofs.Complete.{written_again}
 use Rattle.formula_ast.proofs.Nesting.{Has, Fits}
 use Rattle.formula_ast.proofs.AgainNodes.{some_is, reading_few, reading_fits, reading_again}
-use Rattle.formula_ast.proofs.Printed.{as_written, printed_grammatical, printed_means, prints_flat}
+use Rattle.formula_ast.proofs.Printed.{as_written, printed_grammatical, printed_means, prints_flat, groups, prints_lean}
 use Rattle.formula_ast.proofs.PrintedNumbers.{IsPrintable, read_printable, empty_none}
 use Rattle.formula_ast.proofs.PrintedTokens.{words, kinds_words, IsNamed, IsDigit, IsRegular, printed_kinds}
 
@@ -178,47 +179,77 @@ regular_meant (Group a) b h f =
     regular_meant a (suc b) parts.0 f
 
 -- ---- read, printed and read again
--- a writing of what was read, within the limits
-record IsWrittenBy (text : List ℕ) (f : Tree) : Type 0 where
+-- what a text that was read is written as
+record WasRead (text : List ℕ) (f : Tree) : Type 0 where
   spells : SpellsText text f
   fits : Fits 0 spells.written
+  few : nodes f ≤ most_nodes
+  regular : IsRegular f
 
-read_written : (text : List ℕ) (f : Tree) → reading_of text ≡ Ok f → IsWrittenBy text f
+was_read : (text : List ℕ) (f : Tree) → reading_of text ≡ Ok f → WasRead text f
 unfolding reading_of
-read_written text f h =
+was_read text f h =
     let spells = read_spelt text f h in
     let c = spells.written in
     let written : run writings first_stage (kinds (tokens text 0 0)) ≡ Some c =
     ap (λ ks. run writings first_stage ks) (sym spells.spelt) ∙ written_again c spells.grammatical in
+    let fits : Fits 0 c =
+    some_is (run writings first_stage (kinds (tokens text 0 0))) (Fits 0) c
+    (reading_fits (tokens text 0 0) first_stage 0 0 f refl (omega arith, ((tt, tt), tt)) h) written in
+    let tokens_regular : AreRegular (spelling c) =
+    subst AreRegular (sym (spells.spelt ∙ kinds_words text 0 0)) (words_regular text 0) in
     record {
       spells = spells;
-      fits =
-          some_is (run writings first_stage (kinds (tokens text 0 0))) (Fits 0) c
-          (reading_fits (tokens text 0 0) first_stage 0 0 f refl (omega arith, ((tt, tt), tt)) h) written;
+      fits = fits;
+      few = reading_few (tokens text 0 0) first_stage 0 0 f refl (omega arith) h;
+      regular = subst IsRegular spells.means (regular_meant c 0 tokens_regular fits);
     }
 
 -- the numbers, names and exponents of what was read are those of tokens
 pub read_regular : (text : List ℕ) (f : Tree) → reading_of text ≡ Ok f → IsRegular f
-read_regular text f h =
-    let w = read_written text f h in
-    let tokens_regular : AreRegular (spelling w.spells.written) =
-    subst AreRegular (sym (w.spells.spelt ∙ kinds_words text 0 0)) (words_regular text 0) in
-    subst IsRegular w.spells.means (regular_meant w.spells.written 0 tokens_regular w.fits)
+read_regular text f h = (was_read text f h).regular
 
 pub read_again : (text : List ℕ) (f : Tree) → reading_of text ≡ Ok f → reading_of (print f) ≡ Ok f
 unfolding reading_of
 read_again text f h =
-    let w = read_written text f h in
-    let spells = w.spells in
-    let c = spells.written in
-    let fits : Fits 0 c = w.fits in
-    let few : nodes f ≤ most_nodes = reading_few (tokens text 0 0) first_stage 0 0 f refl (omega arith) h in
-    let regular : IsRegular f = read_regular text f h in
+    let r = was_read text f h in
     let printed = as_written f in
-    let printed_fits : Fits 0 printed =
-    subst (λ g. Fits 0 (as_written g)) spells.means ((prints_flat c spells.grammatical).plain 0 fits) in
+    let fits : Fits 0 printed =
+    subst (λ g. Fits 0 (as_written g)) r.spells.means ((prints_flat r.spells.written r.spells.grammatical).plain 0 r.fits) in
     let accepted : run writings first_stage (kinds (tokens (print f) 0 0)) ≡ Some printed =
-    ap (λ ks. run writings first_stage ks) (printed_kinds f regular) ∙ written_again printed (printed_grammatical f) in
-    let few_printed : nodes (meant printed) ≤ most_nodes = subst (λ g. nodes g ≤ most_nodes) (sym (printed_means f)) few in
-    reading_again (tokens (print f) 0 0) first_stage 0 0 printed refl printed_fits refl few_printed accepted
-    ∙ ap Ok (printed_means f)
+    ap (λ ks. run writings first_stage ks) (printed_kinds f r.regular) ∙ written_again printed (printed_grammatical f) in
+    let few : nodes (meant printed) ≤ most_nodes = subst (λ g. nodes g ≤ most_nodes) (sym (printed_means f)) r.few in
+    reading_again (tokens (print f) 0 0) first_stage 0 0 printed refl fits refl few accepted ∙ ap Ok (printed_means f)
+
+-- ---- the parentheses that are written
+opens_append : (xs ys : List Kind) → count_by is_open (xs ++ ys) ≡ count_by is_open xs + count_by is_open ys
+opens_append xs ys = sum_by-append (λ k. cond (is_open k) 1 0) xs ys
+
+exponent_opens : (minus : Bool) (value : Option Bound) (power : Option ℕ) → count_by is_open (exponent_spelling minus value power) ≡ 0
+exponent_opens false value power = refl
+exponent_opens true value power = refl
+
+opens_groups : (c : Written) → count_by is_open (spelling c) ≡ groups c
+opens_groups (Digits value power) = refl
+opens_groups (Word name) = refl
+opens_groups (Minused a) = omega (arith, opens_groups a)
+opens_groups (Both s a b) =
+    let both = opens_append (spelling a) (Joins s ∷ spelling b) in
+    omega (arith, both, opens_groups a, opens_groups b)
+opens_groups (Powered a minus value power) =
+    let both = opens_append (spelling a) (Hat ∷ exponent_spelling minus value power) in
+    omega (arith, both, opens_groups a, exponent_opens minus value power)
+opens_groups (Group a) =
+    let both = opens_append (spelling a) (Close ∷ []) in
+    let whole : count_by is_open (spelling (Group a)) ≡ 1 + count_by is_open (spelling a ++ Close ∷ []) = opens_append (Open ∷ []) (spelling a ++ Close ∷ []) in
+    omega (arith, whole, both, opens_groups a)
+
+pub fewest_parentheses : (text : List ℕ) (f : Tree) → reading_of text ≡ Ok f → (ks : List Kind) → Spells ks f
+    → count_by is_open (kinds_in (print f)) ≤ count_by is_open ks
+fewest_parentheses text f h ks s =
+    let printed : count_by is_open (kinds_in (print f)) ≡ groups (as_written f) =
+    ap (λ us. count_by is_open us) (printed_kinds f (was_read text f h).regular) ∙ opens_groups (as_written f) in
+    let given : count_by is_open ks ≡ groups s.written = ap (λ us. count_by is_open us) (sym s.spelt) ∙ opens_groups s.written in
+    let lean : groups (as_written f) ≤ groups s.written =
+    subst (λ g. groups (as_written g) ≤ groups s.written) s.means (prints_lean s.written s.grammatical).plain in
+    omega (arith, printed, given, lean)

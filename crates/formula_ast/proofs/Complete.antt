@@ -241,6 +241,14 @@ spelt_accepted ks f h =
 pub written_again : (c : Written) → IsGrammatical c → run writings first_stage (spelling c) ≡ Some c
 written_again c h = accepted writings c h ∙ ap Some (made_written c)
 
+-- none are written in two ways
+pub one_writing : (a b : Written) → IsGrammatical a → IsGrammatical b → spelling a ≡ spelling b → a ≡ b
+one_writing a b h k e =
+    let first = written_again a h in
+    let second = written_again b k in
+    let same = ap (λ ks. run writings first_stage ks) e in
+    cc
+
 -- no tokens spell two formulas
 pub spell_one : (ks : List Kind) (f g : Tree) → Spells ks f → Spells ks g → f ≡ g
 spell_one ks f g h k =

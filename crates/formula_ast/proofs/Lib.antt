@@ -18,3 +18,4 @@ pub mod Again
 pub mod NestingLimits
 pub mod SyntaxPlaces
 pub mod Exponents
+pub mod LongestLiterals

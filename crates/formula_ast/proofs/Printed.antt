@@ -1,5 +1,5 @@
 -- A formula as it is printed, as a formula of the grammar with its parentheses.
-use Rattle.std.specs.Prelude.{◌≡◌, ℕ, suc, ◌≤◌, Bool, true, false, cond, nat_lt, ℤ, pos, negsuc, unsigned_abs, Option, Some, decimal, refl}
+use Rattle.std.specs.Prelude.{◌≡◌, ℕ, suc, ◌+◌, ◌≤◌, Bool, true, false, cond, nat_lt, ℤ, pos, negsuc, unsigned_abs, Option, Some, decimal, refl}
 use Rattle.std.proofs.Common.{ap, ◌∙◌, arith}
 use Rattle.std.proofs.lemmas.Bool.Decides.{nat_tests}
 use Rattle.decimal18.specs.Bound.{Bound}
@@ -134,3 +134,49 @@ prints_flat (Powered a minus value power) h =
     let inside = prints_flat a h.1 in
     not_guarded (Powered a minus value power) (omega arith) (λ b f. (inside.guarded 4 b h.0 f.0, tt))
 prints_flat (Group a) h = grouped a (prints_flat a h)
+
+-- ---- it has no more parentheses than any writing of the formula
+abbrev pub groups : Written → ℕ
+groups (Digits value power) = 0
+groups (Word name) = 0
+groups (Minused a) = groups a
+groups (Both s a b) = groups a + groups b
+groups (Powered a minus value power) = groups a
+groups (Group a) = suc (groups a)
+
+pub record Lean (c : Written) : Type 0 where
+  pub plain : groups (as_written (meant c)) ≤ groups c
+  pub guarded : (least : ℕ) → least ≤ rank c → groups (in_parentheses least (meant c) (as_written (meant c))) ≤ groups c
+
+not_grouped : (c : Written) → rank c ≤ binding (meant c) → groups (as_written (meant c)) ≤ groups c → Lean c
+not_grouped c high h = record {
+  plain = h;
+  guarded = λ least low. by (nat_lt (binding (meant c)) least) (grind (arith, nat_tests));
+} where
+  by : (t : Bool) → t ≡ false → groups (cond t (Group (as_written (meant c))) (as_written (meant c))) ≤ groups c
+  by true e = absurd (cc)
+  by false e = h
+
+lean_group : (a : Written) → Lean a → Lean (Group a)
+lean_group a h = record {
+  plain = omega (arith, h.plain);
+  guarded = λ least low. by (nat_lt (binding (meant a)) least);
+} where
+  by : (t : Bool) → groups (cond t (Group (as_written (meant a))) (as_written (meant a))) ≤ suc (groups a)
+  by true = omega (arith, h.plain)
+  by false = omega (arith, h.plain)
+
+pub prints_lean : (c : Written) → IsGrammatical c → Lean c
+prints_lean (Digits value power) h = not_grouped (Digits value power) (omega arith) (omega arith)
+prints_lean (Word name) h = not_grouped (Word name) (omega arith) (omega arith)
+prints_lean (Minused a) h =
+    let inside = prints_lean a h.1 in
+    not_grouped (Minused a) (omega arith) (inside.guarded 2 h.0)
+prints_lean (Both s a c) h =
+    let left = prints_lean a h.1.1.0 in
+    let right = prints_lean c h.1.1.1 in
+    not_grouped (Both s a c) (omega arith) (omega (arith, left.guarded (tight s) h.0, right.guarded (suc (tight s)) h.1.0))
+prints_lean (Powered a minus value power) h =
+    let inside = prints_lean a h.1 in
+    not_grouped (Powered a minus value power) (omega arith) (inside.guarded 4 h.0)
+prints_lean (Group a) h = lean_group a (prints_lean a h)

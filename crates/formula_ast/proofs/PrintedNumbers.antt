@@ -149,7 +149,7 @@ text_numeral q h =
     (whole_numeral (h.size / 10 ^ q.places) q.places h.size (omega (arith, h.bound.digits, few, div-le_self h.size (10 ^ q.places))))
 
 -- ---- a number that was read
-sign_kept : (sign : Sign) (text : List ℕ) (l : Literal) → unsigned_literal sign text ≡ Some l → l.sign ≡ sign
+pub sign_kept : (sign : Sign) (text : List ℕ) (l : Literal) → unsigned_literal sign text ≡ Some l → l.sign ≡ sign
 sign_kept sign text l h = by (nat_lt 0 (prefix_len is_ascii_digit text)) (exponent_of (behind_front_point (behind_digits text))) h where
   by : (t : Bool) (o : Option (Option Exponent))
       → cond t (option_map (λ e. record { sign = sign; whole = front_digits text; behind_point = front_point (behind_digits text); exponent = e }) o) None ≡ Some l
@@ -188,7 +188,7 @@ bound_printable n p q h = by (is_bound (canonical (pos n) p)) refl h where
         unsigned = whole.1;
       })
 
-digit_no_sign : (c : ℕ) (cs : List ℕ) → is_ascii_digit c ≡ true → front_sign (c ∷ cs) ≡ Unsigned
+pub digit_no_sign : (c : ℕ) (cs : List ℕ) → is_ascii_digit c ≡ true → front_sign (c ∷ cs) ≡ Unsigned
 digit_no_sign c cs h =
     let plus : (c == 43) ≡ false = grind (arith, nat_tests) in
     let minus : (c == 45) ≡ false = grind (arith, nat_tests) in

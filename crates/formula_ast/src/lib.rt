@@ -20,9 +20,9 @@ pub use decimal18::OutOfMemory;
 pub use fault::FormulaFault;
 pub use formula::Formula;
 pub use laws::{
-    printed_text_is_read_again, reading_is_the_grammars, stages_are_the_prefixes_of_the_grammar,
-    syntax_is_placed_at_the_first_wrong_token, what_is_read_has_exponents,
-    what_spells_within_limits_is_read,
+    number_tokens_are_longest_literals, printed_text_is_read_again, reading_is_the_grammars,
+    stages_are_the_prefixes_of_the_grammar, syntax_is_placed_at_the_first_wrong_token,
+    what_is_read_has_exponents, what_spells_within_limits_is_read, worked_readings,
 };
 pub use lexer::{blanks_len, is_blank};
 pub use name::{Name, is_plain_name};
