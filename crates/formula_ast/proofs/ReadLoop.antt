@@ -137,12 +137,12 @@ pub read_more : (text rest behind : List ℕ) (s t : Stage Tree) (nodes end len 
     None ≡ refusal s nodes (length text - length rest) kind opens → step trees s kind ≡ Some t →
     IsAt text behind t (nodes + node_count s kind) (length text - length rest + len)
 read_more text rest behind s t nodes end len kind opens a some front tight o r e = record {
-      within = omega (arith, a.within, front.within);
-      tight = tight;
-      few = (few_more s nodes (length text - length rest) kind opens r a.few).1;
-      read = sym (reading_front text rest behind s nodes end len kind a some front
+  within = omega (arith, a.within, front.within);
+  tight = tight;
+  few = (few_more s nodes (length text - length rest) kind opens r a.few).1;
+  read = sym (reading_front text rest behind s nodes end len kind a some front
       ∙ goes_on_some (step trees s kind) t _ _ _ e (sym (r ∙ ap (refusal s nodes (length text - length rest) kind) o)));
-    }
+}
 
 -- the first token
 pub read_first : (text rest : List ℕ) → IsPassed text rest → IsAt text rest first_stage 0 0
@@ -174,4 +174,3 @@ fails_by (fault.TooMany at) r e = e
 pub not_empty : (n : ℕ) (b : Bool) → b ≡ (n == 0) → b ≡ false → 0 < n
 not_empty zero b e f = absurd (cc)
 not_empty (suc n) b e f = omega arith
-

@@ -12,6 +12,8 @@ mod print;
 mod read;
 mod rows;
 mod rules;
+#[cfg(test)]
+mod tests;
 mod token;
 mod uses;
 

@@ -107,7 +107,12 @@ fn negated(alloc: Global, minuses: u8, operand: Formula) -> Result<Formula, OutO
 }
 
 /// The factor, or the product, that ends with this power.
-fn factor_done(alloc: Global, minuses: u8, multiplied: Option<Left>, power: Formula) -> Result<Formula, OutOfMemory>
+fn factor_done(
+    alloc: Global,
+    minuses: u8,
+    multiplied: Option<Left>,
+    power: Formula,
+) -> Result<Formula, OutOfMemory>
     ensures { IfOk result (λ f. tree_of f ≡ put trees (left_of multiplied) (negated trees minuses (tree_of power))) }
 {
     let factor = negated(alloc, minuses, power)?;
@@ -134,7 +139,13 @@ fn exponent_of(minus: bool, power: Option<u8>) -> i8
 }
 
 /// The state behind an operator that follows an operand.
-fn signed_on(alloc: Global, base: u8, added: Option<Left>, operand: Formula, sign: Sign) -> Result<State, OutOfMemory>
+fn signed_on(
+    alloc: Global,
+    base: u8,
+    added: Option<Left>,
+    operand: Formula,
+    sign: Sign,
+) -> Result<State, OutOfMemory>
     ensures { IfOk result (λ s. (o : List (Waiting Tree)) →
         stage_on s o ≡ signed_on trees base (left_of added) (tree_of operand) o sign) }
 {
@@ -159,7 +170,12 @@ fn signed_on(alloc: Global, base: u8, added: Option<Left>, operand: Formula, sig
 
 /// The state behind a closed parenthesis.
 #[tactic(auto, using(crate::proofs::Levels::outside_more))]
-fn closed(alloc: Global, added: Option<Left>, operand: Formula, outer: &mut Vec<Level>) -> Result<Option<State>, OutOfMemory>
+fn closed(
+    alloc: Global,
+    added: Option<Left>,
+    operand: Formula,
+    outer: &mut Vec<Level>,
+) -> Result<Option<State>, OutOfMemory>
     ensures { IfOk result (λ r. option_map (λ s. stage_of s outer.new.items) r
         ≡ closed (put trees (left_of added) (tree_of operand)) (outside outer.old.items)) }
 {
@@ -171,7 +187,14 @@ fn closed(alloc: Global, added: Option<Left>, operand: Formula, outer: &mut Vec<
 }
 
 /// The state behind a token that follows a factor.
-fn after(alloc: Global, base: u8, added: Option<Left>, factor: Formula, outer: &mut Vec<Level>, kind: &Kind) -> Result<Option<State>, OutOfMemory>
+fn after(
+    alloc: Global,
+    base: u8,
+    added: Option<Left>,
+    factor: Formula,
+    outer: &mut Vec<Level>,
+    kind: &Kind,
+) -> Result<Option<State>, OutOfMemory>
     ensures { IfOk result (λ r. option_map (λ s. stage_of s outer.new.items) r
         ≡ after trees base (left_of added) (tree_of factor) (outside outer.old.items) kind.now) }
 {
@@ -226,7 +249,11 @@ fn name_read(level: Level, name: &Name) -> State
 }
 
 /// The state behind a token where an operand may come.
-fn operand_step(level: Level, outer: &mut Vec<Level>, kind: &Kind) -> Result<Option<State>, OutOfMemory>
+fn operand_step(
+    level: Level,
+    outer: &mut Vec<Level>,
+    kind: &Kind,
+) -> Result<Option<State>, OutOfMemory>
     requires { is_too_deep (AtOperand (waiting_of level) (outside outer.old.items)) kind.now ≡ false }
     ensures { IfOk result (λ r. option_map (λ s. stage_of s outer.new.items) r
         ≡ step trees (AtOperand (waiting_of level) (outside outer.old.items)) kind.now) }
@@ -241,7 +268,13 @@ fn operand_step(level: Level, outer: &mut Vec<Level>, kind: &Kind) -> Result<Opt
 }
 
 /// The state behind a token that follows an atom.
-fn atom_step(alloc: Global, level: Level, atom: Formula, outer: &mut Vec<Level>, kind: &Kind) -> Result<Option<State>, OutOfMemory>
+fn atom_step(
+    alloc: Global,
+    level: Level,
+    atom: Formula,
+    outer: &mut Vec<Level>,
+    kind: &Kind,
+) -> Result<Option<State>, OutOfMemory>
     ensures { IfOk result (λ r. option_map (λ s. stage_of s outer.new.items) r
         ≡ step trees (AtAtom (waiting_of level) (tree_of atom) (outside outer.old.items)) kind.now) }
 {
@@ -256,7 +289,13 @@ fn atom_step(alloc: Global, level: Level, atom: Formula, outer: &mut Vec<Level>,
 }
 
 /// The state behind a token where an exponent may come.
-fn exponent_step(alloc: Global, level: Level, base: Formula, minus: bool, kind: &Kind) -> Result<Option<State>, OutOfMemory>
+fn exponent_step(
+    alloc: Global,
+    level: Level,
+    base: Formula,
+    minus: bool,
+    kind: &Kind,
+) -> Result<Option<State>, OutOfMemory>
     requires { IsSmall kind.now }
     ensures { IfOk result (λ r. (o : List (Waiting Tree)) → option_map (λ s. stage_on s o) r
         ≡ step trees (AtExponent (waiting_of level) (tree_of base) minus o) kind.now) }
@@ -282,7 +321,12 @@ fn exponent_step(alloc: Global, level: Level, base: Formula, minus: bool, kind: 
 /// # Errors
 ///
 /// [`OutOfMemory`] where there is no memory for what is put together.
-pub fn step(alloc: Global, state: State, outer: &mut Vec<Level>, kind: &Kind) -> Result<Option<State>, OutOfMemory>
+pub fn step(
+    alloc: Global,
+    state: State,
+    outer: &mut Vec<Level>,
+    kind: &Kind,
+) -> Result<Option<State>, OutOfMemory>
     requires shallow { is_too_deep (stage_of state outer.old.items) kind.now ≡ false }
     requires small { IsSmall kind.now }
     ensures { IfOk result (λ r. option_map (λ s. stage_of s outer.new.items) r

@@ -138,7 +138,13 @@ pub fn node_count(state: &State, kind: &Kind) -> usize
 }
 
 /// The first rule behind the grammar that the token breaks, in front of which so many nodes stand.
-pub fn refusal(state: &State, nodes: usize, at: usize, kind: &Kind, opens: bool) -> Option<FormulaFault>
+pub fn refusal(
+    state: &State,
+    nodes: usize,
+    at: usize,
+    kind: &Kind,
+    opens: bool,
+) -> Option<FormulaFault>
     ensures { (o : List (Waiting Tree)) → result ≡ refusal (stage_on state.now o) nodes at kind.now opens }
 {
     if let Some(fault) = word_fault(state, at, kind, opens) {
