@@ -27,5 +27,5 @@ pub use name::{Name, is_plain_name};
 pub use name_list::NameList;
 pub use print::print_formula;
 pub use read::read_formula;
-pub use rows::{worked_formulas, worked_prints, worked_refusals};
+pub use rows::{worked_readings, worked_prints, worked_refusals};
 pub use uses::names;
