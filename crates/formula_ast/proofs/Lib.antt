@@ -5,3 +5,16 @@ pub mod Levels
 pub mod Guards
 pub mod ReadLoop
 pub mod NewNamesAll
+pub mod Runs
+pub mod Sound
+pub mod Complete
+pub mod Stages
+pub mod Nesting
+pub mod AgainNodes
+pub mod Printed
+pub mod PrintedNumbers
+pub mod PrintedTokens
+pub mod Again
+pub mod NestingLimits
+pub mod SyntaxPlaces
+pub mod LongestLiterals
