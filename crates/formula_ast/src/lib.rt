@@ -21,11 +21,13 @@ pub use decimal18::OutOfMemory;
 pub use fault::FormulaFault;
 pub use formula::Formula;
 pub use laws::{
-    printed_text_is_read_again, reading_is_the_grammars, stages_are_the_prefixes_of_the_grammar,
+    number_tokens_are_longest_literals, printed_text_is_read_again, reading_is_the_grammars,
+    stages_are_the_prefixes_of_the_grammar, syntax_is_placed_at_the_first_wrong_token,
+    what_spells_within_limits_is_read, worked_formulas,
 };
 pub use name::{Name, is_plain_name};
 pub use name_list::NameList;
 pub use print::print_formula;
 pub use read::read_formula;
-pub use rows::{worked_readings, worked_prints, worked_refusals};
+pub use rows::{worked_prints, worked_readings, worked_refusals};
 pub use uses::names;

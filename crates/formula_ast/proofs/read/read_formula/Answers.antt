@@ -1,7 +1,9 @@
 use Rattle.std.proofs.Common.{◌-◌, length, sym, ◌∙◌}
 use Rattle.formula_ast.specs.Reading.{reading_of}
 use Rattle.formula_ast.specs.States.{stage_of, outside}
-use Rattle.formula_ast.proofs.ReadLoop.{not_empty, read_first, read_ruled, read_more, fails_by}
+use Rattle.formula_ast.specs.Views.{tree_of}
+use Rattle.formula_ast.proofs.ReadLoop.{not_empty, is_empty, read_first, read_ruled, read_more, read_last, fails_by}
+use Rattle.formula_ast.proofs.Sound.{read_spelt}
 use Rattle.formula_ast.proofs.read.read_formula.Goals as goal
 
 pub loop-rest-init : goal.loop-rest-init
@@ -32,3 +34,13 @@ loop-rest-preserved c =
     (c.opens.ensures (length c.args.text.now - length c.front-token.result.1.now))
     (sym c.in_default.is ∙ c.refusal-refused.ensures (outside c.loop-rest.outer.items))
     (sym (rw c.in-Some-2.is at told)))
+
+pub returns-clause-spelt : goal.returns-clause-spelt
+returns-clause-spelt c =
+    let told = c.in_ok-formula.ensures in
+    let read = rw c.in-Some-3.is at told in
+    read_spelt c.args.text.now (tree_of c.in-Some-3.formula)
+    (read_last c.args.text.now c.loop-rest.rest.now (stage_of c.loop-rest.state c.loop-rest.outer.items) c.loop-rest.nodes c.loop-rest.end
+    (tree_of c.in-Some-3.formula) c.loop-rest.invariant
+    (is_empty (length c.loop-rest.rest.now) c.is_empty.result c.is_empty.ensures c.loop-rest-test.false)
+    (rw c.as_slice.ensures.value at read))
