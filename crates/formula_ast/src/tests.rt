@@ -255,40 +255,36 @@ fn repeated(
     Ok(text)
 }
 
-// Texts at the limits: a front, a part and how often it stands there, and what is behind.
-const ACCEPTED_AT_LIMITS: [(&str, &str, usize, &str); 5] = [
-    ("", "(", 64, "1"),
-    ("", "-", 64, "1"),
-    ("-1", "+1", 127, ""),
-    ("-1", "*-1", 84, ""),
-    ("", "0", 65536, ""),
+// Texts at a limit: a front, a part and how often it stands there, what is behind, and how many
+// parentheses close.
+const ACCEPTED_AT_LIMITS: [(&str, &str, usize, &str, usize); 5] = [
+    ("", "(", 64, "1", 64),
+    ("", "-", 64, "1", 0),
+    ("-1", "+1", 127, "", 0),
+    ("-1", "*-1", 84, "", 0),
+    ("", "0", 65536, "", 0),
 ];
 
-const REFUSED_AT_LIMITS: [(&str, &str, usize, &str, FormulaFault); 12] = [
-    ("", "(", 65, "1", FormulaFault::TooDeep(64)),
-    ("", "-", 65, "1", FormulaFault::TooDeep(64)),
-    ("1+(", "-(", 31, "-(-1))", FormulaFault::TooDeep(66)),
-    ("1 * ", "(", 65, "", FormulaFault::TooDeep(68)),
-    ("", "(", 65536, "", FormulaFault::TooDeep(64)),
-    ("", "-", 65536, "", FormulaFault::TooDeep(64)),
-    ("1", "+1", 128, "", FormulaFault::TooMany(256)),
-    ("-1", "+1", 128, "", FormulaFault::TooMany(256)),
-    ("a^2", "*b", 128, "", FormulaFault::TooMany(257)),
-    (
-        "",
-        "1",
-        65536,
-        "",
-        FormulaFault::Number(NumFault::NumberRange, 0),
-    ),
-    ("", "1", 65536, "x", FormulaFault::Syntax(65536)),
-    ("", "a", 65536, "", FormulaFault::Syntax(0)),
+// Texts that nest too deep, and the place.
+const TOO_DEEP: [(&str, &str, usize, &str, usize); 6] = [
+    ("", "(", 65, "1", 64),
+    ("", "-", 65, "1", 64),
+    ("1+(", "-(", 31, "-(-1))", 66),
+    ("1 * ", "(", 65, "", 68),
+    ("", "(", 65536, "", 64),
+    ("", "-", 65536, "", 64),
+];
+
+// Texts with too many nodes, and the place.
+const TOO_MANY: [(&str, &str, usize, &str, usize); 3] = [
+    ("1", "+1", 128, "", 256),
+    ("-1", "+1", 128, "", 256),
+    ("a^2", "*b", 128, "", 257),
 ];
 
 #[test]
-fn limits(rt: HostRuntime) -> Result<(), Fail> {
-    for (front, part, times, behind) in ACCEPTED_AT_LIMITS {
-        let closed = if part == "(" { 64 } else { 0 };
+fn texts_at_limits_are_read(rt: HostRuntime) -> Result<(), Fail> {
+    for (front, part, times, behind, closed) in ACCEPTED_AT_LIMITS {
         let text = repeated(&rt, front, part, times, behind)?;
         let text = repeated(&rt, str::from_utf8(text.as_slice())?, ")", closed, "")?;
         assert_eq!(rt;
@@ -297,14 +293,47 @@ fn limits(rt: HostRuntime) -> Result<(), Fail> {
             "at {times} times {part}"
         );
     }
-    for (front, part, times, behind, fault) in REFUSED_AT_LIMITS {
+    Ok(())
+}
+
+#[test]
+fn texts_past_limits_are_refused(rt: HostRuntime) -> Result<(), Fail> {
+    for (front, part, times, behind, place) in TOO_DEEP {
         let text = repeated(&rt, front, part, times, behind)?;
+        let fault = Some(FormulaFault::TooDeep(place));
         assert_eq!(rt;
             fault_of(&rt, text.as_slice()),
-            Some(fault),
+            fault,
             "at {times} times {part}"
         );
     }
+    for (front, part, times, behind, place) in TOO_MANY {
+        let text = repeated(&rt, front, part, times, behind)?;
+        let fault = Some(FormulaFault::TooMany(place));
+        assert_eq!(rt;
+            fault_of(&rt, text.as_slice()),
+            fault,
+            "at {times} times {part}"
+        );
+    }
+    Ok(())
+}
+
+#[test]
+fn long_tokens_are_refused(rt: HostRuntime) -> Result<(), Fail> {
+    let digits = repeated(&rt, "", "1", 65536, "")?;
+    let fault = Some(FormulaFault::Number(NumFault::NumberRange, 0));
+    assert_eq!(rt; fault_of(&rt, digits.as_slice()), fault);
+    let glued = repeated(&rt, "", "1", 65536, "x")?;
+    assert_eq!(rt;
+        fault_of(&rt, glued.as_slice()),
+        Some(FormulaFault::Syntax(65536))
+    );
+    let name = repeated(&rt, "", "a", 65536, "")?;
+    assert_eq!(rt;
+        fault_of(&rt, name.as_slice()),
+        Some(FormulaFault::Syntax(0))
+    );
     Ok(())
 }
 
