@@ -3,13 +3,12 @@ use Rattle.std.proofs.Common.{◌≡◌, ℕ, zero, suc, ◌+◌, ◌-◌, ◌<�
 use Rattle.std.proofs.lemmas.Bool.{eqb-true}
 use Rattle.std.proofs.lemmas.Bool.Decides.{nat_tests}
 use Rattle.formula_ast.specs.Trees.{Tree}
-use Rattle.formula_ast.specs.Tokens.{Token, tokens, len_of, kind_of}
+use Rattle.formula_ast.specs.Tokens.{tokens, len_of, kind_of}
 use Rattle.formula_ast.specs.Machine.{Stage, AtOperand, AtAtom, AtEnd, AtExponent, trees, step, finish, first_stage}
 use Rattle.formula_ast.specs.Reading.{most_nodes, or_else, word_fault, is_too_deep, is_node, node_count, refusal, unless_refused, goes_on, syntax_place, opens_next, at_end, reading, reading_of}
 use Rattle.formula_ast.specs.Fronts.{IsTight, IsPassed, IsFront}
 use Rattle.formula_ast.specs.Answers.{Fails}
 use Rattle.formula_ast.proofs.FrontTokens.{tokens_skip}
-use Rattle.formula_ast.specs.declared.token.Sign.{Sign}
 use Rattle.formula_ast.specs.declared.token.Sign.TheVariants.{Plus, Minus, Times, Over}
 use Rattle.formula_ast.specs.declared.token.Kind.{Kind}
 use Rattle.formula_ast.specs.declared.token.Kind.TheVariants.{Number, Name, Joins, Hat, Open, Close, Glued, Wrong}
