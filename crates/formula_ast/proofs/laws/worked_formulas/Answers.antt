@@ -2,7 +2,7 @@ use Rattle.std.proofs.Common.{refl}
 use Rattle.std.specs.Fmt.{digits}
 use Rattle.decimal18.specs.Literal.{parsed}
 use Rattle.formula_ast.specs.Reading.{reading_of}
-use Rattle.formula_ast.proofs.laws.worked_readings.Goals as goal
+use Rattle.formula_ast.proofs.laws.worked_formulas.Goals as goal
 
 pub returns-clause-sign_of_power : goal.returns-clause-sign_of_power
 unfolding reading_of parsed
