@@ -115,3 +115,24 @@ pub no_words : (text rest : List ℕ) (at blanks : ℕ) → blanks ≡ prefix_le
 no_words text rest at blanks passed is none =
     let spread : words text 0 at ≡ words rest 0 (at + blanks) = rw (is, passed) (blanks_passed text at) in
     spread ∙ none_left rest (at + blanks) none
+
+drop_twice : (xs : List ℕ) (m n : ℕ) → drop n (drop m xs) ≡ drop (m + n) xs
+drop_twice xs zero n = let e : 0 + n ≡ n = omega arith in rw e refl
+drop_twice [] (suc m) zero = let e : suc m + 0 ≡ suc m = omega arith in rw e refl
+drop_twice [] (suc m) (suc n) = let e : suc m + suc n ≡ suc (m + suc n) = omega arith in rw e refl
+drop_twice (x ∷ xs) (suc m) n = let e : suc m + n ≡ suc (m + n) = omega arith in rw e (drop_twice xs m n)
+
+pub behind_word : (text rest behind : List ℕ) (at blanks len n : ℕ) → rest ≡ drop blanks text → behind ≡ drop len rest →
+    at + n ≡ at + blanks + len → behind ≡ drop n text
+behind_word text rest behind at blanks len n is last far =
+    let e : n ≡ blanks + len = omega (arith, far) in
+    rw (e, last, is) (drop_twice text blanks len)
+
+-- the same by places in the line
+pub word_of_line : (line behind : List ℕ) (at place n : ℕ) (word : List ℕ) → at + n ≡ place + length word →
+    words (drop at line) 0 at ≡ record { place = place; text = word } ∷ words behind 0 (place + length word) →
+    behind ≡ drop n (drop at line) →
+    words (drop at line) 0 at ≡ record { place = place; text = word } ∷ words (drop (place + length word) line) 0 (place + length word)
+word_of_line line behind at place n word far is last =
+    let same : behind ≡ drop (place + length word) line = last ∙ drop_twice line at n ∙ ap (λ k. drop k line) far in
+    is ∙ ap (λ rest. record { place = place; text = word } ∷ words rest 0 (place + length word)) same

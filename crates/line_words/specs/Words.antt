@@ -1,7 +1,8 @@
 -- The words of a line.
-use Rattle.std.specs.Prelude.{ℕ, zero, suc, ◌+◌, ◌-◌, ◌==◌, Bool, not, if◌then◌else◌, List, [], ◌∷◌, take}
+use Rattle.std.specs.Prelude.{ℕ, zero, suc, ◌+◌, ◌-◌, ◌==◌, Bool, not, if◌then◌else◌, List, [], ◌∷◌, take, drop}
 use Rattle.std.specs.List.{prefix_len}
 use Rattle.formula_ast.specs.Tokens.{is_blank}
+use Rattle.formula_ast.specs.Rules.{written_len}
 
 -- a byte in front of a comment, which begins with the first `#`
 abbrev pub is_no_hash : ℕ → Bool
@@ -31,3 +32,11 @@ words (byte ∷ bytes) (suc skip) at = words bytes skip (at + 1)
 words (byte ∷ bytes) zero at =
     if is_blank byte then words bytes 0 (at + 1)
     else record { place = at; text = take (word_len (byte ∷ bytes)) (byte ∷ bytes) } ∷ words bytes (word_len (byte ∷ bytes) - 1) (at + 1)
+
+-- the words of a line from the place `at` on
+abbrev pub words_from : List ℕ → ℕ → List Word
+words_from line at = words (drop at line) 0 at
+
+-- the line without its comment and its last blanks
+abbrev pub written_part : List ℕ → List ℕ
+written_part line = take (written_len (without_comment line)) (without_comment line)

@@ -5,4 +5,4 @@
 mod tests;
 mod words;
 
-pub use words::{split_word, without_comment, written_len};
+pub use words::{behind, next_word, split_word, without_comment, written_len, written_part};

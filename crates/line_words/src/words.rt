@@ -1,7 +1,7 @@
-ghost use Rattle.std.specs.Prelude.{◌≡◌, ◌+◌, ◌<◌, ◌≤◌, ◌^◌, [], ◌∷◌, length, take, drop, IfNone, IfSome};
+ghost use Rattle.std.specs.Prelude.{◌≡◌, ℕ, ◌+◌, ◌<◌, ◌≤◌, ◌^◌, [], ◌∷◌, length, take, drop, IfNone, IfSome};
 ghost use Rattle.std.specs.List.{prefix_len};
 ghost use Rattle.formula_ast.specs.Rules.{written_len};
-ghost use Rattle.line_words.specs.Words.{is_no_hash, without_comment, word_len, words};
+ghost use Rattle.line_words.specs.Words.{is_no_hash, without_comment, written_part, word_len, words, words_from};
 
 use formula_ast::{blanks_len, is_blank};
 
@@ -40,6 +40,14 @@ pub fn written_len(text: &[u8]) -> usize
     len
 }
 
+/// The line without its comment and its last blanks.
+pub fn written_part(line: &[u8]) -> &[u8]
+    ensures { result.now ≡ written_part line.now }
+{
+    let text = without_comment(line);
+    front(text, written_len(text))
+}
+
 /// The length of the word at the front.
 fn word_len(text: &[u8]) -> usize
     ensures is { result ≡ word_len text.now }
@@ -63,7 +71,7 @@ fn front(text: &[u8], len: usize) -> &[u8]
 }
 
 /// The text behind so many bytes.
-fn behind(text: &[u8], len: usize) -> &[u8]
+pub fn behind(text: &[u8], len: usize) -> &[u8]
     requires { len ≤ length text.now }
     ensures is { result.now ≡ drop len text.now }
     ensures length { len + length result.now ≡ length text.now }
@@ -78,6 +86,8 @@ pub fn split_word(text: &[u8], at: usize) -> Option<(usize, &[u8], &[u8])>
     ensures word { IfSome result (λ w. words text.now 0 at
         ≡ record { place = w.0; text = w.1.now } ∷ words w.2.now 0 (w.0 + length w.1.now)) }
     ensures parts { IfSome result (λ w. w.0 + length w.1.now + length w.2.now ≡ at + length text.now) }
+    ensures behind { IfSome result (λ w. (n : ℕ) → at + n ≡ w.0 + length w.1.now → w.2.now ≡ drop n text.now) }
+    ensures after { IfSome result (λ w. at ≤ w.0) }
     ensures some { IfSome result (λ w. 0 < length w.1.now) }
     ensures blank { IfNone result (words text.now 0 at ≡ []) }
 {
@@ -88,4 +98,16 @@ pub fn split_word(text: &[u8], at: usize) -> Option<(usize, &[u8], &[u8])>
     }
     let len = word_len(rest);
     Some((at + blanks, front(rest, len), behind(rest, len)))
+}
+
+/// The first word of the line from the place `at` on, with its place. `None` where there is none.
+pub fn next_word(line: &[u8], at: usize) -> Option<(usize, &[u8])>
+    requires { at ≤ length line.now }
+    ensures word { IfSome result (λ w. words_from line.now at
+        ≡ record { place = w.0; text = w.1.now } ∷ words_from line.now (w.0 + length w.1.now)) }
+    ensures within { IfSome result (λ w. w.0 + length w.1.now ≤ length line.now) }
+    ensures blank { IfNone result (words_from line.now at ≡ []) }
+{
+    let (place, word, _) = split_word(behind(line, at), at)?;
+    Some((place, word))
 }
