@@ -1,7 +1,0 @@
-pub mod ReadingWords
-pub mod ReadingNumbers
-pub mod ReadingForms
-pub mod Kept
-pub mod Sound
-pub mod Standing
-pub mod Serving

@@ -20,8 +20,23 @@ fn is_other_command(word: &[u8]) -> bool
     ensures { result ≡ is_one_of other_commands word.now }
 {
     const COMMANDS: [&[u8]; 17] = [
-        b"set", b"remove", b"undo", b"redo", b"mark", b"restore", b"at", b"var", b"cov", b"r", b"sens",
-        b"dof", b"report", b"expanded", b"decide", b"budget", b"dump",
+        b"set",
+        b"remove",
+        b"undo",
+        b"redo",
+        b"mark",
+        b"restore",
+        b"at",
+        b"var",
+        b"cov",
+        b"r",
+        b"sens",
+        b"dof",
+        b"report",
+        b"expanded",
+        b"decide",
+        b"budget",
+        b"dump",
     ];
     COMMANDS.iter().any(|command| word == *command)
 }
