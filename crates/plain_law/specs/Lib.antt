@@ -1,0 +1,2 @@
+-- The definitions, in the order in which to read them.
+pub mod Numbers
