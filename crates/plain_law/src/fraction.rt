@@ -67,7 +67,10 @@ impl Exact {
     pub fn is_not_negative(self) -> bool
         ensures { result ≡ is_at_most_ℚ (of_ℤ (pos 0)) (number self) }
     {
-        !self.negative || self.numerator == 0
+        if self.negative {
+            return self.numerator == 0;
+        }
+        true
     }
 
     /// The number with the other sign.
@@ -128,6 +131,7 @@ impl Exact {
     pub fn inverse(self) -> Option<Exact>
         ensures undefined { IsNone result ↔ (is_zero_ℚ (number self) ≡ true) }
         ensures inverse { IfSome result (λ r. number r ≡ inv_ℚ (number self)) }
+        ensures not_zero { IfSome result (λ r. is_zero_ℚ (number self) ≡ false) }
     {
         if self.numerator == 0 {
             return None;
@@ -145,6 +149,51 @@ impl Exact {
         ensures divisor { IfSome result (λ r. is_zero_ℚ (number other) ≡ false) }
     {
         self.times(other.inverse()?)
+    }
+
+    // The number times itself, so many factors.
+    fn product_of(self, factors: u8) -> Option<Exact>
+        ensures { IfSome result (λ r. number r ≡ power (number self) factors) }
+    {
+        let mut product = Exact::whole(1);
+        for _ in 0..factors {
+            product = product.times(self)?;
+        }
+        Some(product)
+    }
+
+    /// The whole power; `None` only where 128 bits do not hold a number on the way, or the number is 0
+    /// and the exponent is negative.
+    pub fn power(self, exponent: i8) -> Option<Exact>
+        ensures power { IfSome result (λ r. number r ≡ whole_power (number self) exponent) }
+        ensures defined { IfSome result (λ r. has_power (number self) exponent ≡ true) }
+    {
+        let product = self.product_of(exponent.unsigned_abs())?;
+        if exponent >= 0 {
+            return Some(product);
+        }
+        product.inverse()
+    }
+
+    /// The greatest whole number not above.
+    pub fn floor(self) -> Exact
+        ensures { number result ≡ of_ℤ (floor_ℚ (number self)) }
+    {
+        if self.negative && self.numerator > 0 {
+            return Exact::of_size(true, (self.numerator - 1) / self.denominator + 1);
+        }
+        Exact::of_size(false, self.numerator / self.denominator)
+    }
+
+    // The whole number of this size.
+    fn of_size(negative: bool, size: u128) -> Exact
+        ensures { number result ≡ of_ℤ (signed negative size) }
+    {
+        Exact {
+            negative,
+            numerator: size,
+            denominator: 1,
+        }
     }
 
     /// Whether the number is at most the other; `None` only where 128 bits do not hold their difference.

@@ -1,0 +1,3 @@
+mod Quotient
+mod Powers
+mod Floor
