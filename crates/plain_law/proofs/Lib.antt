@@ -1,3 +1,4 @@
 mod Quotient
 mod Powers
 mod Floor
+mod Jets

@@ -1,2 +1,3 @@
 -- The definitions, in the order in which to read them.
 pub mod Numbers
+pub mod Models

@@ -152,7 +152,7 @@ impl Exact {
     }
 
     // The number times itself, so many factors.
-    fn product_of(self, factors: u8) -> Option<Exact>
+    pub(crate) fn product_of(self, factors: u8) -> Option<Exact>
         ensures { IfSome result (λ r. number r ≡ power (number self) factors) }
     {
         let mut product = Exact::whole(1);

@@ -1,12 +1,15 @@
 //! The law of propagation of uncertainty computed plainly, in exact fractions of 128 bits: a slow
 //! program beside the definitions of `exact_law`, by which they are read against worked examples.
 //!
-//! A call answers `None` where 128 bits do not hold a number on its way; where it answers, its answer
-//! is the number of the definitions.
+//! A call answers `None`, or fails by [`Failure::TooWide`], where 128 bits do not hold a number on its
+//! way; else its answer is the number of the definitions.
 #![tactic(auto)]
 
 mod divisor;
 mod fraction;
+mod jet;
+mod model;
 mod sign;
 
 pub use fraction::Exact;
+pub use model::{Body, Expression, Failure};
