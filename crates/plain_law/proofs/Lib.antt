@@ -2,3 +2,5 @@ mod Quotient
 mod Powers
 mod Floor
 mod Jets
+mod Sizes
+mod Expansions

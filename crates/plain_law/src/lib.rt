@@ -6,10 +6,12 @@
 #![tactic(auto)]
 
 mod divisor;
+mod evaluate;
 mod fraction;
 mod jet;
 mod model;
 mod sign;
 
+pub use evaluate::{derivative, value};
 pub use fraction::Exact;
 pub use model::{Body, Expression, Failure};
