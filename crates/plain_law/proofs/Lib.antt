@@ -4,3 +4,4 @@ mod Floor
 mod Jets
 mod Sizes
 mod Expansions
+mod Values

@@ -185,6 +185,13 @@ impl Exact {
         Exact::of_size(false, self.numerator / self.denominator)
     }
 
+    /// The number of things that are so many.
+    pub(crate) fn count(size: usize) -> Exact
+        ensures { number result ≡ of_ℤ (pos size) }
+    {
+        Exact::of_size(false, size as u128)
+    }
+
     // The whole number of this size.
     fn of_size(negative: bool, size: u128) -> Exact
         ensures { number result ≡ of_ℤ (signed negative size) }

@@ -5,13 +5,16 @@
 //! way; else its answer is the number of the definitions.
 #![tactic(auto)]
 
+mod covariance;
 mod divisor;
 mod evaluate;
 mod fraction;
+mod group;
 mod jet;
 mod model;
 mod sign;
 
 pub use evaluate::{derivative, value};
 pub use fraction::Exact;
+pub use group::{Column, Group, Table};
 pub use model::{Body, Expression, Failure};
