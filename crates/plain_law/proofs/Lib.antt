@@ -5,3 +5,4 @@ mod Jets
 mod Sizes
 mod Expansions
 mod Values
+mod Totals

@@ -11,6 +11,7 @@ mod evaluate;
 mod fraction;
 mod group;
 mod jet;
+mod propagation;
 mod model;
 mod sign;
 
@@ -18,3 +19,4 @@ pub use evaluate::{derivative, value};
 pub use fraction::Exact;
 pub use group::{Column, Group, Table};
 pub use model::{Body, Expression, Failure};
+pub use propagation::{law, part_of};
