@@ -126,11 +126,11 @@ failed v d f g h e (Err x) i k l m = along v d g h (Err x) k (subst (λ t. IsJet
   spread v d f h Undefined l m = l m
   spread v d f h TooWide l m = tt
 
-left_false : (a b : Bool) → a ≡ false → (a && b) ≡ false
+pub left_false : (a b : Bool) → a ≡ false → (a && b) ≡ false
 left_false true b h = absurd (true≢false h)
 left_false false b h = refl
 
-right_false : (a b : Bool) → b ≡ false → (a && b) ≡ false
+pub right_false : (a b : Bool) → b ≡ false → (a && b) ≡ false
 right_false true b h = h
 right_false false b h = refl
 

@@ -11,8 +11,8 @@ mod evaluate;
 mod fraction;
 mod group;
 mod jet;
-mod propagation;
 mod model;
+mod propagation;
 mod sign;
 
 pub use evaluate::{derivative, value};
