@@ -5,7 +5,7 @@
 //! way; else its answer is the number of the definitions.
 #![tactic(auto)]
 
-mod covariance;
+mod covariances;
 mod divisor;
 mod evaluate;
 mod fraction;
@@ -14,7 +14,10 @@ mod jet;
 mod model;
 mod propagation;
 mod sign;
+#[cfg(test)]
+mod tests;
 
+pub use covariances::{covariance, joint, mean};
 pub use evaluate::{derivative, value};
 pub use fraction::Exact;
 pub use group::{Column, Group, Table};

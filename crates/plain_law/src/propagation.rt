@@ -8,7 +8,7 @@ ghost use Rattle.plain_law.specs.Models.{rows, IsAnswer};
 ghost use Rattle.plain_law.specs.Groups.{column, columns, group, groups, if_input, law_where_defined, part_where_defined};
 
 use crate::Exact;
-use crate::covariance::{covariance, joint};
+use crate::covariances::{covariance, joint};
 use crate::evaluate::{derivative, value};
 use crate::group::{Column, Group, Table};
 use crate::model::{Body, Failure};

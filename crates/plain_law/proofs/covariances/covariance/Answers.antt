@@ -6,7 +6,7 @@ use Rattle.exact_law.specs.Law.{cell, joint, covariance_in, covariance}
 use Rattle.plain_law.specs.Numbers.{number}
 use Rattle.plain_law.specs.Groups.{reading, column, columns, group, groups}
 use Rattle.plain_law.proofs.Totals.{below_zero, below_next, none_yet, one_more, all_summed}
-use Rattle.plain_law.proofs.covariance.covariance.Goals as goal
+use Rattle.plain_law.proofs.covariances.covariance.Goals as goal
 
 pub loop-group-init : goal.loop-group-init
 loop-group-init c = none_yet (λ g. covariance_in nat_eq g c.args.i c.args.j) group c.args.all.now _ c.whole-sum.ensures

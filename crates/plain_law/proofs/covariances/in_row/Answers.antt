@@ -6,7 +6,7 @@ use Rattle.exact_law.specs.Law.{cell, joint, covariance_in, covariance}
 use Rattle.plain_law.specs.Numbers.{number}
 use Rattle.plain_law.specs.Groups.{reading, column, columns, group, groups}
 use Rattle.plain_law.proofs.Totals.{below_zero, below_next, none_yet, one_more, all_summed}
-use Rattle.plain_law.proofs.covariance.in_row.Goals as goal
+use Rattle.plain_law.proofs.covariances.in_row.Goals as goal
 
 pub loop-b-init : goal.loop-b-init
 loop-b-init c =

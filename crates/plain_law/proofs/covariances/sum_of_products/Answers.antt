@@ -6,7 +6,7 @@ use Rattle.exact_law.specs.Law.{cell, joint, covariance_in, covariance}
 use Rattle.plain_law.specs.Numbers.{number}
 use Rattle.plain_law.specs.Groups.{reading, column, columns, group, groups}
 use Rattle.plain_law.proofs.Totals.{below_zero, below_next, none_yet, one_more, all_summed}
-use Rattle.plain_law.proofs.covariance.sum_of_products.Goals as goal
+use Rattle.plain_law.proofs.covariances.sum_of_products.Goals as goal
 
 pub loop-index-init : goal.loop-index-init
 loop-index-init c = below_zero (λ t. reading c.args.a.now t *ℚ reading c.args.b.now t) _ c.whole-sum.ensures

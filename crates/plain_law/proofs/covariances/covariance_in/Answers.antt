@@ -7,7 +7,7 @@ use Rattle.exact_law.specs.Law.{cell, joint, covariance_in, covariance}
 use Rattle.plain_law.specs.Numbers.{number}
 use Rattle.plain_law.specs.Groups.{reading, column, columns, group, groups}
 use Rattle.plain_law.proofs.Totals.{below_zero, below_next, none_yet, one_more, all_summed}
-use Rattle.plain_law.proofs.covariance.covariance_in.Goals as goal
+use Rattle.plain_law.proofs.covariances.covariance_in.Goals as goal
 
 pub returns-in-Own : goal.returns-in-Own
 unfolding covariance_in

@@ -1,7 +1,7 @@
 ghost use Rattle.std.specs.Prelude.{◌≡◌, ℕ, IfSome, nat_eq};
 ghost use Rattle.exact_fraction.specs.Number.{◌*ℚ◌};
 ghost use Rattle.exact_law.specs.Sums.{total, below};
-ghost use Rattle.exact_law.specs.Law.{joint, cell, covariance_in, covariance};
+ghost use Rattle.exact_law.specs.Law.{mean, joint, cell, covariance_in, covariance};
 ghost use Rattle.plain_law.specs.Numbers.{number};
 ghost use Rattle.plain_law.specs.Groups.{reading, column, columns, group, groups};
 
@@ -40,6 +40,14 @@ fn sum_of_products(records: usize, a: &[Exact], b: &[Exact]) -> Option<Exact>
         sum = product.plus(sum)?;
     }
     Some(sum)
+}
+
+/// The mean of a column (JCGM 100:2008, 4.2.1); `None` where there are no records, or 128 bits do not
+/// hold a number on the way.
+pub fn mean(records: usize, a: &Column) -> Option<Exact>
+    ensures { IfSome result (λ r. number r ≡ mean records (column a.now).reading) }
+{
+    sum_of(records, &a.readings)?.over(Exact::count(records))
 }
 
 /// The covariance of the means of two columns (JCGM 100:2008, 4.2.3, 5.2.3).
