@@ -1,6 +1,6 @@
 -- The expansion of a model by its places, and how failures spread.
-use Rattle.std.specs.Prelude.{◌≡◌, ◌⊎◌, ℕ, zero, suc, ◌+◌, ◌-◌, ◌*◌, ◌<◌, ◌≤◌, Bool, true, false, cond, not, ◌&&◌, Option, Some, None, Result, Ok, Err, List, [], ◌∷◌, length, slice_get, nat_eq, ℤ, pos, refl}
-use Rattle.std.proofs.Common.{sym, ◌∙◌, ap, ap₂, arith, eq-eqb, subst, inl, inr}
+use Rattle.std.specs.Prelude.{◌≡◌, ℕ, zero, suc, ◌+◌, ◌-◌, ◌*◌, ◌<◌, ◌≤◌, Bool, true, false, cond, not, ◌&&◌, Some, None, Result, Ok, Err, List, [], ◌∷◌, length, slice_get, nat_eq, ℤ, pos, refl}
+use Rattle.std.proofs.Common.{sym, ◌∙◌, ap, arith, eq-eqb, subst}
 use Rattle.std.proofs.lemmas.Bool.{ne_eqb, ltb-true, ltb-false, true≢false}
 use Rattle.std.proofs.lemmas.Option.{slice_get_read, slice_get_past}
 use Rattle.std.proofs.Math.Dec.{ltb}
@@ -8,8 +8,7 @@ use Rattle.std.proofs.Math.ListN.{get_or}
 use Rattle.std.specs.Option.{option_map, option_map_or}
 use Rattle.std.specs.Result.{IsErrAnd}
 use Rattle.exact_fraction.specs.Number.{ℚ, of_ℤ, is_zero_ℚ}
-use Rattle.exact_law.specs.Model.{Expression, Num, Key, Neg, Add, Sub, Mul, Div, Pow, Body, Input, Formula, Row, is_defined, has_power, value, slope, replaced, replaced_body, body_of, estimate_in, estimate, expansion, unit}
-use Rattle.plain_law.specs.declared.fraction.Exact.{Exact}
+use Rattle.exact_law.specs.Model.{Expression, Num, Key, Neg, Add, Sub, Mul, Div, Pow, Input, Formula, Row, is_defined, has_power, value, slope, replaced, replaced_body, body_of, estimate_in, estimate, expansion}
 use Rattle.plain_law.specs.declared.jet.Jet.{Jet}
 use Rattle.plain_law.specs.declared.model.Failure.{Failure}
 use Rattle.plain_law.specs.declared.model.Failure.TheVariants.{Undefined, TooWide}

@@ -1,9 +1,9 @@
 -- Whole powers by products and inverses.
-use Rattle.std.specs.Prelude.{◌≡◌, ℕ, zero, suc, Bool, true, false, not, ℤ, pos, negsuc, ◌+◌, ◌≤ℤ◌, ◌<ℤ◌, unsigned_abs, refl, [], ◌∷◌}
+use Rattle.std.specs.Prelude.{◌≡◌, ℕ, suc, Bool, true, false, not, ℤ, pos, negsuc, ◌+◌, ◌≤ℤ◌, ◌<ℤ◌, unsigned_abs, refl, [], ◌∷◌}
 use Rattle.std.proofs.Common.{sym, ◌∙◌, ap, arith}
 use Rattle.std.proofs.lemmas.Int.{ints}
 use Rattle.std.proofs.lemmas.Bool.{true≢false}
-use Rattle.exact_fraction.specs.Number.{ℚ, of_ℤ, ◌*ℚ◌, inv_ℚ, is_zero_ℚ}
+use Rattle.exact_fraction.specs.Number.{ℚ, ◌*ℚ◌, inv_ℚ, is_zero_ℚ}
 use Rattle.exact_fraction.proofs.Quotients.{is_zero_ℚ-≡, ≡-is_zero_ℚ}
 use Rattle.exact_fraction.proofs.Ring.{Whole, ◌:*◌, x0, ring}
 use Rattle.exact_law.specs.Sums.{power, whole_power}

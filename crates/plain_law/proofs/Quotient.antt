@@ -1,19 +1,19 @@
 -- Quotients of whole numbers: a common divisor, sums, products, inverses and signs.
-use Rattle.std.specs.Prelude.{◌≡◌, ◌↔◌, ℕ, zero, suc, ◌*◌, ◌/◌, ◌<◌, Bool, true, false, not, ◌&&◌, ◌||◌, nat_eq, ℤ, pos, ◌+ℤ◌, ◌*ℤ◌, ◌≤ℤ◌, neg_ℤ, refl, [], ◌∷◌}
-use Rattle.std.proofs.Common.{sym, ◌∙◌, ap, ap₂, arith, subst}
+use Rattle.std.specs.Prelude.{◌≡◌, ℕ, zero, suc, ◌*◌, ◌/◌, ◌<◌, Bool, true, false, not, ◌||◌, nat_eq, ℤ, pos, ◌+ℤ◌, ◌*ℤ◌, ◌≤ℤ◌, neg_ℤ, refl, [], ◌∷◌}
+use Rattle.std.proofs.Common.{sym, ◌∙◌, ap, ap₂, arith}
 use Rattle.std.proofs.lemmas.Int.{ints}
 use Rattle.std.proofs.lemmas.Bool.{true≢false}
 use Rattle.std.proofs.Math.Nat.{div-mul_cancel}
-use std.Quotient.{eq/, /_rec, /_rec₂}
+use std.Quotient.{eq/, /_rec}
 use Prim.Native.Nat.{◌∣◌}
 use Rattle.std.proofs.Math.Dec.{eqb-suc-zero}
-use Rattle.exact_fraction.specs.Fraction.{Fraction, ◌≼◌, whole, is_zero_ℤ, inverse}
+use Rattle.exact_fraction.specs.Fraction.{Fraction, whole, is_zero_ℤ, inverse}
 use Rattle.exact_fraction.specs.Whole.{diff_same, push}
-use Rattle.exact_fraction.specs.Number.{ℚ, number_of, of_ℤ, ◌+ℚ◌, ◌*ℚ◌, ◌/ℚ◌, neg_ℚ, inv_ℚ, is_zero_ℚ, is_at_most_ℚ, ◌≤ℚ◌}
+use Rattle.exact_fraction.specs.Number.{ℚ, number_of, of_ℤ, ◌+ℚ◌, ◌*ℚ◌, ◌/ℚ◌, neg_ℚ, inv_ℚ, is_zero_ℚ, is_at_most_ℚ}
 use Rattle.exact_fraction.specs.NumberLaws.{of_ℤ-+, of_ℤ-*, of_ℤ-neg, ≤ℚ-of_≼, ≼-of_≤ℚ}
 use Rattle.exact_fraction.proofs.OrderLaws.{≤ℚ-difference, ≤ℚ-of_difference}
 use Rattle.exact_fraction.proofs.Quotients.{/ℚ-*ℚ, ≡-/ℚ, number_of-parts}
-use Rattle.exact_fraction.proofs.Ring.{Whole, ◌:+◌, ◌:-◌, ◌:*◌, Minus, x0, x1, x2, x3, x4, x5, ring}
+use Rattle.exact_fraction.proofs.Ring.{Whole, ◌:+◌, ◌:*◌, Minus, x0, x1, x2, x3, x4, ring}
 use Rattle.exact_law.specs.Sums.{◌-ℚ◌}
 use Rattle.plain_law.specs.Numbers.{signed, differ}
 

@@ -1,6 +1,5 @@
 -- How much is left of the expansion of a formula.
-use Rattle.std.specs.Prelude.{◌≡◌, ℕ, zero, suc, ◌+◌, ◌-◌, ◌*◌, ◌<◌, ◌≤◌, Option, Some, List, [], ◌∷◌, slice_get}
-use Rattle.std.proofs.Common.{arith}
+use Rattle.std.specs.Prelude.{ℕ, ◌+◌, List, [], ◌∷◌}
 use Rattle.plain_law.specs.declared.model.Expression.{Expression}
 use Rattle.plain_law.specs.declared.model.Expression.TheVariants.{Num, Key, Neg', Add', Sub', Mul', Div', Pow'}
 use Rattle.plain_law.specs.declared.model.Body.{Body}

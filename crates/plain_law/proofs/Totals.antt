@@ -1,9 +1,9 @@
 -- Sums over a list by one step after another.
 use Rattle.std.specs.Prelude.{◌≡◌, ℕ, suc, ◌+◌, ◌<◌, ◌≤◌, List, [], ◌∷◌, length, map, pos, refl}
-use Rattle.std.proofs.Common.{sym, ◌∙◌, ap, ap₂, arith, drop}
+use Rattle.std.proofs.Common.{sym, ◌∙◌, ap, arith, drop}
 use Rattle.std.proofs.lemmas.List.{drop_more, drop_all}
 use Rattle.std.proofs.Math.ListN.{get_or}
-use Rattle.exact_fraction.specs.Number.{ℚ, of_ℤ, ◌+ℚ◌, ◌*ℚ◌}
+use Rattle.exact_fraction.specs.Number.{ℚ, of_ℤ, ◌+ℚ◌}
 use Rattle.exact_fraction.proofs.Ring.{Whole, ◌:+◌, x0, x1, x2, ring}
 use Rattle.exact_law.specs.Sums.{total, below}
 use Rattle.exact_law.specs.Law.{inputs_with, inputs_of}

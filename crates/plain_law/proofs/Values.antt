@@ -5,7 +5,7 @@ use Rattle.std.proofs.lemmas.Bool.{true≢false}
 use Rattle.std.specs.Option.{is_some}
 use Rattle.std.specs.Result.{IsErrAnd}
 use Rattle.exact_fraction.specs.Number.{ℚ}
-use Rattle.exact_law.specs.Model.{Row, is_defined, value, slope, expansion, expanded, estimate, unit, exact_value, exact_slope, has_value, value_of, derivative_of}
+use Rattle.exact_law.specs.Model.{is_defined, value, slope, expansion, expanded, estimate, unit, exact_value, exact_slope, has_value, value_of, derivative_of}
 use Rattle.plain_law.specs.declared.fraction.Exact.{Exact}
 use Rattle.plain_law.specs.declared.jet.Jet.{Jet}
 use Rattle.plain_law.specs.declared.model.Failure.{Failure}

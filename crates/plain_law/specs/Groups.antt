@@ -1,5 +1,5 @@
 -- The crate's groups of inputs as those of the definitions.
-use Rattle.std.specs.Prelude.{ℕ, Bool, ◌&&◌, cond, Option, Some, None, List, map, slice_get, nat_eq, pos}
+use Rattle.std.specs.Prelude.{ℕ, ◌&&◌, cond, Option, Some, None, List, map, slice_get, nat_eq, pos}
 use Rattle.std.specs.Option.{option_map_or}
 use Rattle.exact_fraction.specs.Number.{ℚ, of_ℤ}
 use Rattle.exact_law.specs.Model.{Row, has_value}

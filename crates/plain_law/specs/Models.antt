@@ -1,5 +1,5 @@
 -- The crate's models as those of the definitions: a row's key is its place.
-use Rattle.std.specs.Prelude.{◌≡◌, ℕ, suc, true, false, ⊤, Option, Some, None, Result, Ok, Err, List, [], ◌∷◌, nat_eq}
+use Rattle.std.specs.Prelude.{◌≡◌, ℕ, suc, true, false, ⊤, Option, Some, None, Result, Ok, Err, List, [], ◌∷◌}
 use Rattle.exact_fraction.specs.Number.{ℚ}
 use Rattle.exact_law.specs.Model.{Expression, Num, Key, Neg, Add, Sub, Mul, Div, Pow, Row, Body, Input, Formula, is_defined, value, slope}
 use Rattle.plain_law.specs.declared.fraction.Exact.{Exact}

@@ -1,11 +1,11 @@
-use Rattle.std.specs.Prelude.{nat_eq, map, refl, drop}
-use Rattle.std.proofs.Common.{◌∙◌, ap, ap₂, sym, arith}
-use Rattle.exact_fraction.specs.Number.{◌+ℚ◌, ◌*ℚ◌, ◌/ℚ◌}
-use Rattle.exact_law.specs.Sums.{total, below, ◌-ℚ◌}
-use Rattle.exact_law.specs.Law.{cell, joint, covariance_in, covariance}
+use Rattle.std.specs.Prelude.{nat_eq}
+use Rattle.std.proofs.Common.{◌∙◌, ap, sym}
+use Rattle.exact_fraction.specs.Number.{◌+ℚ◌}
+use Rattle.exact_law.specs.Sums.{total}
+use Rattle.exact_law.specs.Law.{cell, joint}
 use Rattle.plain_law.specs.Numbers.{number}
-use Rattle.plain_law.specs.Groups.{reading, column, columns, group, groups}
-use Rattle.plain_law.proofs.Totals.{below_zero, below_next, none_yet, one_more, all_summed}
+use Rattle.plain_law.specs.Groups.{column, columns}
+use Rattle.plain_law.proofs.Totals.{none_yet, one_more, all_summed}
 use Rattle.plain_law.proofs.covariances.in_table.Goals as goal
 
 pub loop-a-init : goal.loop-a-init

@@ -1,9 +1,9 @@
 use Rattle.std.proofs.Common.{◌≡◌, drop, nat_eq}
-use Rattle.exact_fraction.specs.Number.{◌+ℚ◌, ◌*ℚ◌}
-use Rattle.exact_law.specs.Sums.{total, below}
-use Rattle.exact_law.specs.Law.{cell, joint, covariance_in}
+use Rattle.exact_fraction.specs.Number.{◌+ℚ◌}
+use Rattle.exact_law.specs.Sums.{total}
+use Rattle.exact_law.specs.Law.{cell, joint}
 use Rattle.plain_law.specs.Numbers.{number}
-use Rattle.plain_law.specs.Groups.{reading, column, columns, group, groups}
+use Rattle.plain_law.specs.Groups.{columns}
 use Rattle.plain_law.proofs.covariances.in_table.Given as goal
 
 abbrev pub invariant-loop-a : goal.invariant-loop-a

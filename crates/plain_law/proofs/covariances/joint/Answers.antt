@@ -1,12 +1,10 @@
-use Rattle.std.specs.Prelude.{nat_eq, map, refl, drop, pos}
-use Rattle.std.proofs.Common.{◌∙◌, ap, ap₂, sym, arith}
+use Rattle.std.specs.Prelude.{pos}
+use Rattle.std.proofs.Common.{◌∙◌, ap, ap₂}
 use Rattle.std.proofs.lemmas.Option.{IfSome_then}
-use Rattle.exact_fraction.specs.Number.{of_ℤ, ◌+ℚ◌, ◌*ℚ◌, ◌/ℚ◌}
+use Rattle.exact_fraction.specs.Number.{of_ℤ, ◌*ℚ◌, ◌/ℚ◌}
 use Rattle.exact_law.specs.Sums.{total, below, ◌-ℚ◌}
-use Rattle.exact_law.specs.Law.{cell, joint, covariance_in, covariance}
-use Rattle.plain_law.specs.Numbers.{number}
-use Rattle.plain_law.specs.Groups.{reading, column, columns, group, groups}
-use Rattle.plain_law.proofs.Totals.{below_zero, below_next, none_yet, one_more, all_summed}
+use Rattle.exact_law.specs.Law.{joint}
+use Rattle.plain_law.specs.Groups.{reading}
 use Rattle.plain_law.proofs.covariances.joint.Goals as goal
 
 pub returns : goal.returns

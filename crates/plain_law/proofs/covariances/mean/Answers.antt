@@ -1,4 +1,3 @@
-use Rattle.std.specs.Prelude.{pos}
 use Rattle.std.proofs.Common.{◌∙◌, ap, ap₂}
 use Rattle.std.proofs.lemmas.Option.{IfSome_then}
 use Rattle.exact_fraction.specs.Number.{◌/ℚ◌}

@@ -1,11 +1,8 @@
-use Rattle.std.specs.Prelude.{nat_eq, map, refl, drop}
-use Rattle.std.proofs.Common.{◌∙◌, ap, ap₂, sym, arith}
-use Rattle.exact_fraction.specs.Number.{◌+ℚ◌, ◌*ℚ◌, ◌/ℚ◌}
-use Rattle.exact_law.specs.Sums.{total, below, ◌-ℚ◌}
-use Rattle.exact_law.specs.Law.{cell, joint, covariance_in, covariance}
+use Rattle.std.proofs.Common.{◌∙◌, ap}
+use Rattle.exact_fraction.specs.Number.{◌+ℚ◌}
 use Rattle.plain_law.specs.Numbers.{number}
-use Rattle.plain_law.specs.Groups.{reading, column, columns, group, groups}
-use Rattle.plain_law.proofs.Totals.{below_zero, below_next, none_yet, one_more, all_summed}
+use Rattle.plain_law.specs.Groups.{reading}
+use Rattle.plain_law.proofs.Totals.{below_zero, below_next}
 use Rattle.plain_law.proofs.covariances.sum_of.Goals as goal
 
 pub loop-index-init : goal.loop-index-init

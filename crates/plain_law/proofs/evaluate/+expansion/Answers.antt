@@ -1,10 +1,10 @@
-use Rattle.std.specs.Prelude.{◌≡◌, nat_eq, ◌-◌, ◌<◌, refl}
+use Rattle.std.specs.Prelude.{nat_eq, refl}
 use Rattle.std.specs.Option.{is_some}
 use Rattle.std.proofs.lemmas.Int.{to_z-of_z}
-use Rattle.std.proofs.Common.{rules, w8, sym, ◌∙◌, ap, ap₂, arith, length}
-use Rattle.exact_law.specs.Model.{Neg, Add, Sub, Mul, Div, Pow, Num, Key, estimate, expansion, replaced, unit}
+use Rattle.std.proofs.Common.{rules, w8, sym, ◌∙◌, ap, ap₂, arith}
+use Rattle.exact_law.specs.Model.{Neg, Add, Sub, Mul, Div, Pow, estimate, expansion, replaced, unit}
 use Rattle.plain_law.specs.Numbers.{number}
-use Rattle.plain_law.specs.Models.{expression, rows, IsJetOf, IsJetOrFailure}
+use Rattle.plain_law.specs.Models.{expression, rows}
 use Rattle.plain_law.proofs.Sizes.{model_size, size}
 use Rattle.plain_law.proofs.Expansions.{looked_up, looked_past, body_of-found, body_of-missing, formula_size, falls, expansion-formula, expansion-input, expansion-missing, expansion-zero, estimate-input, estimate-formula, estimate-missing, key_jet, number_jet, along, along_jet, failed, add_left, add_right, sub_left, sub_right, mul_left, mul_right, div_left, div_right, neg_part, pow_part, replaced_add, replaced_sub, replaced_mul, replaced_div, replaced_neg, replaced_pow, replaced_key, replaced_num}
 use Rattle.plain_law.proofs.evaluate.+expansion.Goals as goal

@@ -1,5 +1,5 @@
 use Rattle.std.proofs.Common.{arith}
-use Rattle.std.proofs.lemmas.Int.{ints, to_z-of_z}
+use Rattle.std.proofs.lemmas.Int.{to_z-of_z}
 use Rattle.plain_law.proofs.Jets.{power_jet}
 use Rattle.plain_law.proofs.jet.power_of.Goals as goal
 

@@ -2,10 +2,10 @@ use Rattle.std.proofs.Common.{◌≡◌, drop, nat_eq}
 use Rattle.exact_fraction.specs.Number.{◌+ℚ◌, ◌*ℚ◌}
 use Rattle.exact_law.specs.Sums.{total}
 use Rattle.exact_law.specs.Model.{exact_slope}
-use Rattle.exact_law.specs.Law.{joint, covariance, inputs_of}
+use Rattle.exact_law.specs.Law.{covariance, inputs_of}
 use Rattle.plain_law.specs.Numbers.{number}
 use Rattle.plain_law.specs.Models.{rows_from, rows}
-use Rattle.plain_law.specs.Groups.{column, columns, groups}
+use Rattle.plain_law.specs.Groups.{groups}
 use Rattle.plain_law.proofs.propagation.double_sum.Given as goal
 
 abbrev pub invariant-loop-i : goal.invariant-loop-i

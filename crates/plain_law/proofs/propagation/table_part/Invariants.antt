@@ -2,10 +2,10 @@ use Rattle.std.proofs.Common.{◌≡◌, drop, nat_eq}
 use Rattle.exact_fraction.specs.Number.{◌+ℚ◌, ◌*ℚ◌}
 use Rattle.exact_law.specs.Sums.{total}
 use Rattle.exact_law.specs.Model.{exact_slope}
-use Rattle.exact_law.specs.Law.{joint, covariance, inputs_of}
+use Rattle.exact_law.specs.Law.{joint}
 use Rattle.plain_law.specs.Numbers.{number}
-use Rattle.plain_law.specs.Models.{rows_from, rows}
-use Rattle.plain_law.specs.Groups.{column, columns, groups}
+use Rattle.plain_law.specs.Models.{rows}
+use Rattle.plain_law.specs.Groups.{columns}
 use Rattle.plain_law.proofs.propagation.table_part.Given as goal
 
 abbrev pub invariant-loop-a : goal.invariant-loop-a

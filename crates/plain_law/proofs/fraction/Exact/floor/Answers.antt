@@ -1,4 +1,3 @@
-use Rattle.std.specs.Prelude.{◌-◌}
 use Rattle.std.proofs.Common.{sym, ◌∙◌, arith, inl, inr}
 use Rattle.std.proofs.lemmas.Bool.{true≢false}
 use Rattle.plain_law.specs.Numbers.{number}

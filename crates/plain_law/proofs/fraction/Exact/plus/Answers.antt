@@ -1,5 +1,5 @@
 use Rattle.std.specs.Prelude.{◌≡◌, ◌*◌, ◌/◌, pos, ◌+ℤ◌}
-use Rattle.std.proofs.Common.{◌∙◌, ap₂, subst, sym, arith}
+use Rattle.std.proofs.Common.{◌∙◌, ap₂}
 use Rattle.std.proofs.Math.Nat.{mul-pos}
 use Rattle.exact_fraction.specs.Number.{of_ℤ, ◌/ℚ◌}
 use Rattle.plain_law.specs.Numbers.{number, signed}

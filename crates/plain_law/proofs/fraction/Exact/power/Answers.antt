@@ -1,7 +1,6 @@
-use Rattle.std.proofs.Common.{◌∙◌, ap, arith}
+use Rattle.std.proofs.Common.{◌∙◌, arith}
 use Rattle.std.proofs.lemmas.Int.{ints, to_z-of_z}
 use Rattle.std.proofs.lemmas.Option.{IfSome_then}
-use Rattle.exact_fraction.specs.Number.{inv_ℚ}
 use Rattle.plain_law.specs.Numbers.{number}
 use Rattle.plain_law.proofs.Powers.{power_up, power_down, has_power_up, has_power_down}
 use Rattle.plain_law.proofs.fraction.Exact.power.Goals as goal

@@ -1,4 +1,3 @@
-use Rattle.std.proofs.Common.{arith}
 use Rattle.plain_law.specs.Numbers.{number}
 use Rattle.plain_law.proofs.Quotient.{lowest, positive_part}
 use Rattle.plain_law.proofs.fraction.Exact.reduced.Goals as goal
