@@ -1,3 +1,6 @@
 mod Quotient
 mod Powers
 mod Floor
+pub mod DegreeLemmas
+pub mod PlaceLemmas
+pub mod RuleLemmas

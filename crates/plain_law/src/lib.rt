@@ -5,8 +5,17 @@
 //! is the number of the definitions.
 #![tactic(auto)]
 
+mod degrees;
+mod digits;
 mod divisor;
 mod fraction;
+mod interval_rule;
+mod place;
+mod rule;
 mod sign;
 
+pub use degrees::{Degrees, Level, Share, effective, factor, whole_degrees};
+pub use digits::{Digits, at_place, hundredths, two_digits};
 pub use fraction::Exact;
+pub use interval_rule::{Decision, Ends, Span, decide};
+pub use rule::{Form, Rule, Statement, stated};
