@@ -4,3 +4,4 @@ mod Floor
 pub mod DegreeLemmas
 pub mod PlaceLemmas
 pub mod RuleLemmas
+pub mod CorrelationLemmas

@@ -1,7 +1,6 @@
 -- Units of places, and squares of them.
-use Rattle.std.specs.Prelude.{◌≡◌, ℕ, suc, ◌+◌, ◌-◌, ◌*◌, ◌≤◌, Bool, true, false, ℤ, pos, ◌+ℤ◌, refl}
+use Rattle.std.specs.Prelude.{◌≡◌, ℕ, ◌+◌, ◌*◌, ◌≤◌, Bool, true, false, ℤ, pos, ◌+ℤ◌, refl}
 use Rattle.std.proofs.Common.{sym, ◌∙◌, ap, subst, arith}
-use Rattle.std.proofs.lemmas.Int.{ints}
 use Rattle.std.proofs.lemmas.Bool.Decides.{nat_tests}
 use std.Quotient.{/_rec}
 use Rattle.exact_fraction.specs.Number.{ℚ, of_ℤ, ◌*ℚ◌, ◌/ℚ◌, is_zero_ℚ, is_at_most_ℚ, ◌≤ℚ◌}
@@ -12,7 +11,7 @@ use Rattle.exact_law.specs.Rounding.{ten_to, least_root, scaled_square, IsTwoDig
 use Rattle.exact_law.proofs.RoundingLaws.{ten_to-next, ten_times}
 use Rattle.plain_law.specs.Numbers.{number}
 use Rattle.plain_law.specs.declared.place.Place.{Place}
-use Rattle.plain_law.specs.DigitViews.{HasUnit, IsPlaceOf, AreDigits}
+use Rattle.plain_law.specs.DigitViews.{HasUnit, AreDigits}
 
 -- ---- units
 ten_not_zero : is_zero_ℚ (of_ℤ (pos 10)) ≡ false

@@ -1,7 +1,7 @@
 ghost use Rattle.std.specs.Prelude.{◌≡◌, ℤ, pos, IfSome};
 ghost use Rattle.exact_fraction.specs.Number.{of_ℤ, ◌≤ℚ◌};
 ghost use Rattle.exact_law.specs.Sums.{◌<ℚ◌};
-ghost use Rattle.exact_law.specs.Rounding.{at_place, scaled_square, IsHundredths};
+ghost use Rattle.exact_law.specs.Rounding.{at_place, scaled_square, IsCorrelation, IsHundredths};
 ghost use Rattle.plain_law.specs.Numbers.{number};
 ghost use Rattle.plain_law.specs.DigitViews.{HasUnit, IsPlaceOf, AreDigits, AreDigitsOf};
 
@@ -121,4 +121,18 @@ pub fn hundredths(square: Exact) -> Option<u8>
         }
     }
     None
+}
+
+/// The correlation coefficient (JCGM 100:2008, 5.2.2) of two quantities with this covariance and these
+/// variances, in hundredths. `None` comes only where a variance is 0, where the coefficient is out of
+/// range, or where 128 bits do not hold a number on the way.
+pub fn correlation(covariance: Exact, first: Exact, second: Exact) -> Option<i16>
+    ensures { IfSome result (IsCorrelation (number covariance) (number first) (number second)) }
+{
+    let square = covariance.times(covariance)?.over(first.times(second)?)?;
+    let size = i16::from(hundredths(square)?);
+    if covariance.is_not_negative() {
+        return Some(size);
+    }
+    Some(-size)
 }

@@ -6,6 +6,8 @@
 #![tactic(auto)]
 
 mod degrees;
+#[cfg(test)]
+mod digit_tests;
 mod digits;
 mod divisor;
 mod fraction;
@@ -15,7 +17,7 @@ mod rule;
 mod sign;
 
 pub use degrees::{Degrees, Level, Share, effective, factor, whole_degrees};
-pub use digits::{Digits, at_place, hundredths, two_digits};
+pub use digits::{Digits, at_place, correlation, hundredths, two_digits};
 pub use fraction::Exact;
 pub use interval_rule::{Decision, Ends, Span, decide};
 pub use rule::{Form, Rule, Statement, stated};

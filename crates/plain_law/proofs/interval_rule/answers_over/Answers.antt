@@ -1,6 +1,6 @@
-use Rattle.std.proofs.Common.{map, arith}
-use Rattle.exact_law.specs.WrittenRule.{all_over, guarded_over, inside_over, near_over}
-use Rattle.plain_law.specs.RuleViews.{answer_of, ends_of, span_of}
+use Rattle.std.proofs.Common.{arith}
+use Rattle.exact_law.specs.WrittenRule.{guarded_over, inside_over, near_over}
+use Rattle.plain_law.specs.RuleViews.{ends_of}
 use Rattle.plain_law.proofs.RuleLemmas.{yes_both, all_over-next, all_over-end}
 use Rattle.plain_law.proofs.interval_rule.answers_over.Goals as goal
 

@@ -1,4 +1,4 @@
-use Rattle.std.proofs.Common.{arith, rules}
+use Rattle.std.proofs.Common.{rules}
 use Rattle.plain_law.proofs.PlaceLemmas.{HasUnit-next}
 use Rattle.plain_law.proofs.place.Place.next.Goals as goal
 
