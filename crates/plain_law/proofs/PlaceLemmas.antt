@@ -1,17 +1,16 @@
 -- Units of places, and squares of them.
-use Rattle.std.specs.Prelude.{◌≡◌, ℕ, ◌+◌, ◌*◌, ◌≤◌, Bool, true, false, ℤ, pos, ◌+ℤ◌, refl}
-use Rattle.std.proofs.Common.{sym, ◌∙◌, ap, subst, arith}
-use Rattle.std.proofs.lemmas.Bool.Decides.{nat_tests}
+use Rattle.std.specs.Prelude.{◌≡◌, ℕ, ◌*◌, Bool, true, false, pos, ◌+ℤ◌, refl}
+use Rattle.std.proofs.Common.{sym, ◌∙◌, ap, subst}
 use std.Quotient.{/_rec}
 use Rattle.exact_fraction.specs.Number.{ℚ, of_ℤ, ◌*ℚ◌, ◌/ℚ◌, is_zero_ℚ, is_at_most_ℚ, ◌≤ℚ◌}
 use Rattle.exact_fraction.proofs.OrderLaws.{≤ℚ_left}
 use Rattle.exact_fraction.proofs.Quotients.{*ℚ-/ℚ}
 use Rattle.exact_law.specs.Sums.{power, ◌<ℚ◌}
-use Rattle.exact_law.specs.Rounding.{ten_to, least_root, scaled_square, IsTwoDigits}
+use Rattle.exact_law.specs.Rounding.{ten_to, scaled_square}
 use Rattle.exact_law.proofs.RoundingLaws.{ten_to-next, ten_times}
 use Rattle.plain_law.specs.Numbers.{number}
 use Rattle.plain_law.specs.declared.place.Place.{Place}
-use Rattle.plain_law.specs.DigitViews.{HasUnit, AreDigits}
+use Rattle.plain_law.specs.DigitViews.{HasUnit}
 
 -- ---- units
 ten_not_zero : is_zero_ℚ (of_ℤ (pos 10)) ≡ false
@@ -42,27 +41,9 @@ square_of r p w v s u d e f = rw (f, d, e, u.unit) refl
 pub at_most_by : (x y : ℚ) (b : Bool) → b ≡ is_at_most_ℚ x y → b ≡ true → x ≤ℚ y
 at_most_by x y b h e = record { holds = sym h ∙ e }
 
-pub above_by : (x y : ℚ) (b : Bool) → b ≡ is_at_most_ℚ x y → b ≡ false → y <ℚ x
-above_by x y b h e = record { not_above = sym h ∙ e }
-
 -- ---- from place to place
 pub low_next : (w : ℚ) (p q : Place) → q.exponent ≡ (p.exponent +ℤ pos 1) → scaled_square 1990 p.exponent ≤ℚ w → scaled_square 199 q.exponent ≤ℚ w
 low_next w p q e h = ≤ℚ_left _ _ w (ap (scaled_square 199) e ∙ ten_times p.exponent) h
 
 pub high_previous : (w : ℚ) (p q : Place) → p.exponent ≡ (q.exponent +ℤ pos 1) → w <ℚ scaled_square 199 p.exponent → w <ℚ scaled_square 1990 q.exponent
 high_previous w p q e h = subst (λ t. w <ℚ t) (ap (scaled_square 199) e ∙ ten_times q.exponent) h
-
--- ---- from digits to digits
-least_root-next : (m : ℕ) → 10 ≤ m → least_root (m + 1) ≡ 20 * m + 10
-least_root-next m h = grind (arith, nat_tests)
-
-pub low_digits : (w : ℚ) (m : ℕ) (e : ℤ) → 10 ≤ m → scaled_square (20 * m + 10) e ≤ℚ w → scaled_square (least_root (m + 1)) e ≤ℚ w
-low_digits w m e h k = ≤ℚ_left _ _ w (ap (λ r. scaled_square r e) (least_root-next m h)) k
-
-pub two_digits_of : (v w : ℚ) (m : ℕ) (e : ℤ) → w ≡ of_ℤ (pos 400) *ℚ v → AreDigits w m e → IsTwoDigits v m e
-two_digits_of v w m e h d = record {
-  at_least_10 = d.at_least_10;
-  at_most_99 = d.at_most_99;
-  low = subst (λ t. scaled_square (least_root m) e ≤ℚ t) h d.low;
-  high = subst (λ t. t <ℚ scaled_square (20 * m + 10) e) h d.high;
-}

@@ -1,7 +1,7 @@
-ghost use Rattle.std.specs.Prelude.{◌≡◌, ℤ, pos, map, IfSome};
-ghost use Rattle.exact_fraction.specs.Number.{of_ℤ, ◌/ℚ◌, floor_ℚ};
+ghost use Rattle.std.specs.Prelude.{◌≡◌, pos, true, false, map, IfSome, IsSome};
+ghost use Rattle.exact_fraction.specs.Number.{of_ℤ, floor_ℚ, is_zero_ℚ};
 ghost use Rattle.exact_law.specs.Sums.{total};
-ghost use Rattle.exact_law.specs.Degrees.{any_counts, counts, effective, factor, first_row, later_rows, row_at, row_of, thousandths, weight};
+ghost use Rattle.exact_law.specs.Degrees.{any_counts, counts, effective, factor, row_at, row_of, thousandths, weight};
 ghost use Rattle.plain_law.specs.Numbers.{number};
 ghost use Rattle.plain_law.specs.DegreeViews.{degrees_of, factors_of, level_of, share_of};
 
@@ -53,7 +53,7 @@ fn any_counts(shares: &[Share]) -> bool
 // The sum of the shares' squares, each divided by its ν.
 
 fn total_weight(shares: &[Share]) -> Option<Exact>
-    ensures { IfSome result (λ sum. number sum ≡ total weight (map share_of shares.now)) }
+    ensures { IfSome result (λ r. number r ≡ total weight (map share_of shares.now)) }
 {
     let mut sum = Exact::whole(0);
     for share in shares {
@@ -68,7 +68,9 @@ fn total_weight(shares: &[Share]) -> Option<Exact>
 /// shares of both signs cancel.
 #[tactic(auto, unfolding(exact_law::specs::Degrees::effective))]
 pub fn effective(variance: Exact, shares: &[Share]) -> Option<Degrees>
-    ensures { IfSome result (λ degrees. degrees_of degrees ≡ effective (number variance) (map share_of shares.now)) }
+    ensures none { is_zero_ℚ (number variance) ≡ true → IsSome result }
+    ensures infinite { any_counts (map share_of shares.now) ≡ false → IsSome result }
+    ensures degrees { IfSome result (λ r. degrees_of r ≡ effective (number variance) (map share_of shares.now)) }
 {
     if variance.is_zero() {
         return Some(Degrees::None);
@@ -145,7 +147,7 @@ const INFINITE_ROW: Factors = row!(0, 1960, 2000, 2576);
 // them.
 #[tactic(auto, unfolding(exact_law::specs::Degrees::row_at))]
 fn row_at(degrees: Exact, first: Factors, rows: &[Factors]) -> Option<Factors>
-    ensures { IfSome result (λ row. factors_of row ≡ row_at (number degrees) (factors_of first) (map factors_of rows.now)) }
+    ensures { IfSome result (λ r. factors_of r ≡ row_at (number degrees) (factors_of first) (map factors_of rows.now)) }
 {
     let mut row = first;
     for next in rows {
@@ -160,7 +162,9 @@ fn row_at(degrees: Exact, first: Factors, rows: &[Factors]) -> Option<Factors>
 // The row for the degrees: a finite ν that is no row's takes the next lower one (JCGM 100:2008, G.4.1).
 #[tactic(auto, unfolding(exact_law::specs::Degrees::row_of, exact_law::specs::Degrees::row, exact_law::specs::Degrees::first_row, exact_law::specs::Degrees::later_rows, exact_law::specs::Degrees::infinite_row))]
 fn row_of(degrees: Degrees) -> Option<Factors>
-    ensures { IfSome result (λ row. factors_of row ≡ row_of (degrees_of degrees)) }
+    ensures without_degrees { degrees ≡ Degrees.None → IsSome result }
+    ensures with_infinite_degrees { degrees ≡ Degrees.Infinite → IsSome result }
+    ensures row { IfSome result (λ r. factors_of r ≡ row_of (degrees_of degrees)) }
 {
     match degrees {
         Degrees::None | Degrees::Infinite => Some(INFINITE_ROW),
@@ -183,7 +187,9 @@ fn thousandths(level: Level, factors: Factors) -> u16
 /// on the way.
 #[tactic(auto, unfolding(exact_law::specs::Degrees::factor, exact_law::specs::Degrees::factor_in))]
 pub fn factor(level: Level, degrees: Degrees) -> Option<Exact>
-    ensures { IfSome result (λ k. number k ≡ factor (level_of level) (degrees_of degrees)) }
+    ensures without_degrees { degrees ≡ Degrees.None → IsSome result }
+    ensures with_infinite_degrees { degrees ≡ Degrees.Infinite → IsSome result }
+    ensures factor { IfSome result (λ k. number k ≡ factor (level_of level) (degrees_of degrees)) }
 {
     let factors = row_of(degrees)?;
     Exact::ratio(i64::from(thousandths(level, factors)), 1000)

@@ -1,5 +1,5 @@
-ghost use Rattle.std.specs.Prelude.{◌≡◌, ℤ, pos, IfSome};
-ghost use Rattle.exact_fraction.specs.Number.{of_ℤ, ◌≤ℚ◌};
+ghost use Rattle.std.specs.Prelude.{◌≡◌, true, IfSome, Some};
+ghost use Rattle.exact_fraction.specs.Number.{of_ℤ, is_zero_ℚ, ◌≤ℚ◌};
 ghost use Rattle.exact_law.specs.Sums.{◌<ℚ◌};
 ghost use Rattle.exact_law.specs.Rounding.{at_place, scaled_square, IsCorrelation, IsHundredths};
 ghost use Rattle.plain_law.specs.Numbers.{number};
@@ -64,7 +64,7 @@ fn place_of(scaled: Exact) -> Option<Place>
 // The first digits whose greatest root is above.
 fn digits_at(scaled: Exact, place: Place) -> Option<u8>
     requires { IsPlaceOf (number scaled) place }
-    ensures { IfSome result (λ digits. AreDigits (number scaled) digits place.exponent) }
+    ensures { IfSome result (λ r. AreDigits (number scaled) r place.exponent) }
 {
     for digits in 10..100u8 {
         let end = place.scaled_square(20 * u16::from(digits) + 10)?;
@@ -78,7 +78,8 @@ fn digits_at(scaled: Exact, place: Place) -> Option<u8>
 /// The two digits of a standard uncertainty (JCGM 100:2008, 7.2.6), from its square. `None` comes only
 /// where the variance is negative, or where 128 bits do not hold a number on the way.
 pub fn two_digits(variance: Exact) -> Option<Digits>
-    ensures { IfSome result (AreDigitsOf (number variance)) }
+    ensures zero { is_zero_ℚ (number variance) ≡ true → result ≡ Some Digits.Zero }
+    ensures digits { IfSome result (AreDigitsOf (number variance)) }
 {
     if variance.is_zero() {
         return Some(Digits::Zero);
@@ -98,7 +99,7 @@ pub fn two_digits(variance: Exact) -> Option<Digits>
 /// The estimate in units of the place, to the nearest; ties go upward. `None` comes only where 128 bits
 /// do not hold a number on the way.
 pub fn at_place(estimate: Exact, exponent: i32) -> Option<Exact>
-    ensures { IfSome result (λ units. number units ≡ of_ℤ (at_place (number estimate) exponent)) }
+    ensures { IfSome result (λ r. number r ≡ of_ℤ (at_place (number estimate) exponent)) }
 {
     let place = Place::at(exponent)?;
     let half = Exact::ratio(1, 2)?;

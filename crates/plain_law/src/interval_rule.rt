@@ -37,7 +37,7 @@ enum Answer {
 // Whether what lies in the one interval is at most what lies in the other.
 #[tactic(auto, unfolding(exact_law::specs::WrittenRule::compared))]
 fn compared(a: Ends, b: Ends) -> Option<Answer>
-    ensures { IfSome result (λ answer. answer_of answer ≡ compared (ends_of a) (ends_of b)) }
+    ensures { IfSome result (λ r. answer_of r ≡ compared (ends_of a) (ends_of b)) }
 {
     if a.high.at_most(b.low)? {
         return Some(Answer::Yes);
@@ -100,9 +100,9 @@ struct Answers {
 
 #[tactic(auto, unfolding(exact_law::specs::WrittenRule::guarded_over, exact_law::specs::WrittenRule::inside_over, exact_law::specs::WrittenRule::near_over))]
 fn answers_at(square: Ends, span: &Span) -> Option<Answers>
-    ensures guarded { IfSome result (λ answers. answer_of answers.guarded ≡ guarded_over (ends_of square) (span_of span.now)) }
-    ensures inside { IfSome result (λ answers. answer_of answers.inside ≡ inside_over (span_of span.now)) }
-    ensures near { IfSome result (λ answers. answer_of answers.near ≡ near_over (ends_of square) (span_of span.now)) }
+    ensures guarded { IfSome result (λ r. answer_of r.guarded ≡ guarded_over (ends_of square) (span_of span.now)) }
+    ensures inside { IfSome result (λ r. answer_of r.inside ≡ inside_over (span_of span.now)) }
+    ensures near { IfSome result (λ r. answer_of r.near ≡ near_over (ends_of square) (span_of span.now)) }
 {
     let zero = Exact::whole(0);
     let inside = compared(
@@ -134,9 +134,9 @@ fn joined(a: Answers, b: Answers) -> Answers
 }
 
 fn answers_over(square: Ends, spans: &[Span]) -> Option<Answers>
-    ensures guarded { IfSome result (λ answers. answer_of answers.guarded ≡ all_over (guarded_over (ends_of square)) (map span_of spans.now)) }
-    ensures inside { IfSome result (λ answers. answer_of answers.inside ≡ all_over inside_over (map span_of spans.now)) }
-    ensures near { IfSome result (λ answers. answer_of answers.near ≡ all_over (near_over (ends_of square)) (map span_of spans.now)) }
+    ensures guarded { IfSome result (λ r. answer_of r.guarded ≡ all_over (guarded_over (ends_of square)) (map span_of spans.now)) }
+    ensures inside { IfSome result (λ r. answer_of r.inside ≡ all_over inside_over (map span_of spans.now)) }
+    ensures near { IfSome result (λ r. answer_of r.near ≡ all_over (near_over (ends_of square)) (map span_of spans.now)) }
 {
     let mut answers = Answers {
         guarded: Answer::Yes,
@@ -181,7 +181,7 @@ fn decision_by(form: Form, answers: Answers) -> Decision
 /// 128 bits do not hold a number on the way.
 #[tactic(auto, unfolding(exact_law::specs::WrittenRule::decision))]
 pub fn decide(form: Form, guard_square: Ends, spans: &[Span]) -> Option<Decision>
-    ensures { IfSome result (λ found. decision_of found ≡ decision (form_of form) (ends_of guard_square) (map span_of spans.now)) }
+    ensures { IfSome result (λ r. decision_of r ≡ decision (form_of form) (ends_of guard_square) (map span_of spans.now)) }
 {
     Some(decision_by(form, answers_over(guard_square, spans)?))
 }

@@ -27,7 +27,7 @@ impl Place {
     /// The place to the left; `None` only where 128 bits do not hold its unit.
     pub fn next(self) -> Option<Place>
         requires unit { HasUnit self }
-        ensures exponent { IfSome result (λ place. place.exponent ≡ self.exponent +ℤ pos 1) }
+        ensures exponent { IfSome result (λ r. r.exponent ≡ self.exponent +ℤ pos 1) }
         ensures unit { IfSome result HasUnit }
     {
         Some(Place {
@@ -39,7 +39,7 @@ impl Place {
     /// The place to the right; `None` only where 128 bits do not hold its unit.
     pub fn previous(self) -> Option<Place>
         requires unit { HasUnit self }
-        ensures exponent { IfSome result (λ place. self.exponent ≡ place.exponent +ℤ pos 1) }
+        ensures exponent { IfSome result (λ r. self.exponent ≡ r.exponent +ℤ pos 1) }
         ensures unit { IfSome result HasUnit }
     {
         Some(Place {
@@ -50,7 +50,7 @@ impl Place {
 
     /// The place with this exponent; `None` only where 128 bits do not hold its unit.
     pub fn at(exponent: i32) -> Option<Place>
-        ensures exponent { IfSome result (λ place. place.exponent ≡ exponent) }
+        ensures exponent { IfSome result (λ r. r.exponent ≡ exponent) }
         ensures unit { IfSome result HasUnit }
     {
         if exponent < 0 {
@@ -60,7 +60,7 @@ impl Place {
     }
 
     fn left_of_ones(count: u32) -> Option<Place>
-        ensures exponent { IfSome result (λ place. place.exponent ≡ pos count) }
+        ensures exponent { IfSome result (λ r. r.exponent ≡ pos count) }
         ensures unit { IfSome result HasUnit }
     {
         let mut place = Place::ones();
@@ -71,7 +71,7 @@ impl Place {
     }
 
     fn right_of_ones(count: u32) -> Option<Place>
-        ensures exponent { IfSome result (λ place. place.exponent ≡ neg_ℤ (pos count)) }
+        ensures exponent { IfSome result (λ r. r.exponent ≡ neg_ℤ (pos count)) }
         ensures unit { IfSome result HasUnit }
     {
         let mut place = Place::ones();
@@ -84,7 +84,7 @@ impl Place {
     /// The square of `root` units.
     pub fn scaled_square(self, root: u16) -> Option<Exact>
         requires unit { HasUnit self }
-        ensures { IfSome result (λ square. number square ≡ scaled_square root self.exponent) }
+        ensures { IfSome result (λ r. number r ≡ scaled_square root self.exponent) }
     {
         let root = u32::from(root);
         Exact::whole(i64::from(root * root)).times(self.unit.times(self.unit)?)

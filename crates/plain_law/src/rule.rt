@@ -39,7 +39,7 @@ enum Distance {
 
 #[tactic(auto, unfolding(exact_law::specs::WrittenRule::above_lower))]
 fn above_lower(limit: Option<Exact>, estimate: Exact) -> Option<Distance>
-    ensures { IfSome result (λ distance. distances_of distance ≡ above_lower (limit_of limit) (number estimate)) }
+    ensures { IfSome result (λ r. distances_of r ≡ above_lower (limit_of limit) (number estimate)) }
 {
     let Some(limit) = limit else {
         return Some(Distance::NoLimit);
@@ -49,7 +49,7 @@ fn above_lower(limit: Option<Exact>, estimate: Exact) -> Option<Distance>
 
 #[tactic(auto, unfolding(exact_law::specs::WrittenRule::below_upper))]
 fn below_upper(limit: Option<Exact>, estimate: Exact) -> Option<Distance>
-    ensures { IfSome result (λ distance. distances_of distance ≡ below_upper (limit_of limit) (number estimate)) }
+    ensures { IfSome result (λ r. distances_of r ≡ below_upper (limit_of limit) (number estimate)) }
 {
     let Some(limit) = limit else {
         return Some(Distance::NoLimit);
@@ -60,7 +60,7 @@ fn below_upper(limit: Option<Exact>, estimate: Exact) -> Option<Distance>
 // W = r² k² V.
 #[tactic(auto, unfolding(exact_law::specs::WrittenRule::guard_square))]
 fn guard_square(rule: &Rule, factor: Exact, variance: Exact) -> Option<Exact>
-    ensures { IfSome result (λ square. number square ≡ guard_square (rule_of rule.now) (number factor) (number variance)) }
+    ensures { IfSome result (λ r. number r ≡ guard_square (rule_of rule.now) (number factor) (number variance)) }
 {
     let guard = rule.guard.times(rule.guard)?;
     guard.times(factor.times(factor)?)?.times(variance)
@@ -88,9 +88,9 @@ struct Conditions {
 
 #[tactic(auto, unfolding(exact_law::specs::WrittenRule::is_guarded, exact_law::specs::WrittenRule::is_inside, exact_law::specs::WrittenRule::is_near))]
 fn conditions_inside(square: Exact, distance: Exact) -> Option<Conditions>
-    ensures guarded { IfSome result (λ conditions. conditions.guarded ≡ is_guarded (number square) (number distance)) }
-    ensures inside { IfSome result (λ conditions. conditions.inside ≡ is_inside (number distance)) }
-    ensures near { IfSome result (λ conditions. conditions.near ≡ is_near (number square) (number distance)) }
+    ensures guarded { IfSome result (λ r. r.guarded ≡ is_guarded (number square) (number distance)) }
+    ensures inside { IfSome result (λ r. r.inside ≡ is_inside (number distance)) }
+    ensures near { IfSome result (λ r. r.near ≡ is_near (number square) (number distance)) }
 {
     let inside = distance.is_not_negative();
     let distance_square = distance.times(distance)?;
@@ -105,9 +105,9 @@ fn conditions_inside(square: Exact, distance: Exact) -> Option<Conditions>
 
 #[tactic(auto, unfolding(exact_law::specs::WrittenRule::all_of))]
 fn conditions_at(square: Exact, distance: Distance) -> Option<Conditions>
-    ensures guarded { IfSome result (λ conditions. conditions.guarded ≡ all_of (is_guarded (number square)) (distances_of distance)) }
-    ensures inside { IfSome result (λ conditions. conditions.inside ≡ all_of is_inside (distances_of distance)) }
-    ensures near { IfSome result (λ conditions. conditions.near ≡ all_of (is_near (number square)) (distances_of distance)) }
+    ensures guarded { IfSome result (λ r. r.guarded ≡ all_of (is_guarded (number square)) (distances_of distance)) }
+    ensures inside { IfSome result (λ r. r.inside ≡ all_of is_inside (distances_of distance)) }
+    ensures near { IfSome result (λ r. r.near ≡ all_of (is_near (number square)) (distances_of distance)) }
 {
     match distance {
         Distance::NoLimit => Some(Conditions {
@@ -160,7 +160,8 @@ fn stated_by(form: Form, conditions: Conditions) -> Statement
 /// The statement of the rule on an estimate with this coverage factor and this variance. `None` comes
 /// only where 128 bits do not hold a number on the way.
 pub fn stated(rule: &Rule, estimate: Exact, factor: Exact, variance: Exact) -> Option<Statement>
-    ensures { IfSome result (λ statement. statement_of statement ≡ stated (rule_of rule.now) (number estimate) (number factor) (number variance)) }
+    ensures { IfSome result (λ r. statement_of r
+        ≡ stated (rule_of rule.now) (number estimate) (number factor) (number variance)) }
 {
     let square = guard_square(rule, factor, variance)?;
     let lower = conditions_at(square, above_lower(rule.lower, estimate)?)?;
