@@ -51,7 +51,6 @@ fn any_counts(shares: &[Share]) -> bool
 }
 
 // The sum of the shares' squares, each divided by its ν.
-
 fn total_weight(shares: &[Share]) -> Option<Exact>
     ensures { IfSome result (λ r. number r ≡ total weight (map share_of shares.now)) }
 {
