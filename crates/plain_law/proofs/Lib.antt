@@ -1,6 +1,10 @@
 mod Quotient
 mod Powers
 mod Floor
+mod Jets
+mod Sizes
+mod Expansions
+mod Values
 pub mod DegreeLemmas
 pub mod PlaceLemmas
 pub mod RuleLemmas

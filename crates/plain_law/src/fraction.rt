@@ -152,7 +152,7 @@ impl Exact {
     }
 
     // The number times itself, so many factors.
-    fn product_of(self, factors: u8) -> Option<Exact>
+    pub(crate) fn product_of(self, factors: u8) -> Option<Exact>
         ensures { IfSome result (λ r. number r ≡ power (number self) factors) }
     {
         let mut product = Exact::whole(1);
@@ -183,6 +183,13 @@ impl Exact {
             return Exact::of_size(true, (self.numerator - 1) / self.denominator + 1);
         }
         Exact::of_size(false, self.numerator / self.denominator)
+    }
+
+    /// The number of things that are so many.
+    pub(crate) fn count(size: usize) -> Exact
+        ensures { number result ≡ of_ℤ (pos size) }
+    {
+        Exact::of_size(false, size as u128)
     }
 
     // The whole number of this size.
