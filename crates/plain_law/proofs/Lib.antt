@@ -5,6 +5,7 @@ mod Jets
 mod Sizes
 mod Expansions
 mod Values
+mod Totals
 pub mod DegreeLemmas
 pub mod PlaceLemmas
 pub mod RuleLemmas

@@ -8,6 +8,8 @@ use Rattle.plain_law.specs.declared.fraction.Exact.{Exact}
 use Rattle.plain_law.specs.declared.group.Column.{Column as WrittenColumn}
 use Rattle.plain_law.specs.declared.group.Group.{Group as WrittenGroup}
 use Rattle.plain_law.specs.declared.group.Group.TheVariants.{Own as AnOwn, Correlated as ACorrelated, Joint as AJoint}
+use Rattle.plain_law.specs.declared.model.Body.{Body as WrittenBody}
+use Rattle.plain_law.specs.declared.model.Body.TheVariants.{Input as AnInput, Formula as AFormula}
 use Rattle.plain_law.specs.Numbers.{number}
 
 -- what the record t reads, and 0 past the end
@@ -27,6 +29,11 @@ group (AJoint t) = Joint t.records (columns t.columns.items)
 
 abbrev pub groups : List WrittenGroup → List (Group ℕ)
 groups gs = map group gs
+
+-- x where the row is an input, and 0 where it is a formula
+abbrev pub if_input : WrittenBody → ℚ → ℚ
+if_input (AnInput q) x = x
+if_input (AFormula f) x = of_ℤ (pos 0)
 
 -- the covariance of y and z where both have a value
 abbrev pub law_where_defined : List (Row ℕ) → List (Group ℕ) → ℕ → ℕ → Option ℚ

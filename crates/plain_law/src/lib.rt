@@ -18,6 +18,7 @@ mod interval_rule;
 mod jet;
 mod model;
 mod place;
+mod propagation;
 mod rule;
 mod sign;
 
@@ -28,4 +29,5 @@ pub use fraction::Exact;
 pub use group::{Column, Group, Table};
 pub use interval_rule::{Decision, Ends, Span, decide};
 pub use model::{Body, Expression, Failure};
+pub use propagation::{law, part_of};
 pub use rule::{Form, Rule, Statement, stated};

@@ -7,4 +7,4 @@ use Rattle.plain_law.specs.Groups.{reading, column, columns, group, groups}
 use Rattle.plain_law.proofs.covariance.in_row.Given as goal
 
 abbrev pub invariant-loop-b : goal.invariant-loop-b
-invariant-loop-b l = number l.sum +ℚ total (λ b. cell nat_eq l.a.key b.key (joint l.table.records (column l.a).reading b.reading) l.i l.j) (columns (drop l.b-index l.table.columns.items)) ≡ total (λ b. cell nat_eq l.a.key b.key (joint l.table.records (column l.a).reading b.reading) l.i l.j) (columns l.table.columns.items)
+invariant-loop-b l = number l.sum +ℚ total (λ b. cell nat_eq l.a.key b.key (joint l.table.records (column l.a).reading b.reading) l.i l.j) (columns (drop l.b-index l.b-items)) ≡ total (λ b. cell nat_eq l.a.key b.key (joint l.table.records (column l.a).reading b.reading) l.i l.j) (columns l.table.columns.items)

@@ -7,4 +7,4 @@ use Rattle.plain_law.specs.Groups.{reading, column, columns, group, groups}
 use Rattle.plain_law.proofs.covariance.in_table.Given as goal
 
 abbrev pub invariant-loop-a : goal.invariant-loop-a
-invariant-loop-a l = number l.sum +ℚ total (λ a. total (λ b. cell nat_eq a.key b.key (joint l.table.records a.reading b.reading) l.i l.j) (columns l.table.columns.items)) (columns (drop l.a-index l.table.columns.items)) ≡ total (λ a. total (λ b. cell nat_eq a.key b.key (joint l.table.records a.reading b.reading) l.i l.j) (columns l.table.columns.items)) (columns l.table.columns.items)
+invariant-loop-a l = number l.sum +ℚ total (λ a. total (λ b. cell nat_eq a.key b.key (joint l.table.records a.reading b.reading) l.i l.j) (columns l.table.columns.items)) (columns (drop l.a-index l.a-items)) ≡ total (λ a. total (λ b. cell nat_eq a.key b.key (joint l.table.records a.reading b.reading) l.i l.j) (columns l.table.columns.items)) (columns l.table.columns.items)

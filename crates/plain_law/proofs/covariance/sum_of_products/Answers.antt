@@ -1,0 +1,17 @@
+use Rattle.std.specs.Prelude.{nat_eq, map, refl, drop}
+use Rattle.std.proofs.Common.{◌∙◌, ap, ap₂, sym, arith}
+use Rattle.exact_fraction.specs.Number.{◌+ℚ◌, ◌*ℚ◌, ◌/ℚ◌}
+use Rattle.exact_law.specs.Sums.{total, below, ◌-ℚ◌}
+use Rattle.exact_law.specs.Law.{cell, joint, covariance_in, covariance}
+use Rattle.plain_law.specs.Numbers.{number}
+use Rattle.plain_law.specs.Groups.{reading, column, columns, group, groups}
+use Rattle.plain_law.proofs.Totals.{below_zero, below_next, none_yet, one_more, all_summed}
+use Rattle.plain_law.proofs.covariance.sum_of_products.Goals as goal
+
+pub loop-index-init : goal.loop-index-init
+loop-index-init c = below_zero (λ t. reading c.args.a.now t *ℚ reading c.args.b.now t) _ c.whole-sum.ensures
+
+pub loop-index-preserved : goal.loop-index-preserved
+loop-index-preserved c =
+    below_next (λ t. reading c.args.a.now t *ℚ reading c.args.b.now t) c.loop-index.index _ _ c.loop-index.invariant
+    (c.in_ok-sum.ensures ∙ ap (λ x. x +ℚ number c.loop-index.sum) (c.in_ok-product.ensures ∙ ap₂ ◌*ℚ◌ c.reading_at.ensures c.reading_at-in-loop-index.ensures))
