@@ -56,15 +56,7 @@ fn weighted(model: &[Body], y: usize, z: usize, i: usize, j: usize, c: Exact) ->
 }
 
 // The term of the double sum for `i` and `j`, where `body` is that of `j`: formulas bring none.
-fn term(
-    model: &[Body],
-    all: &[Group],
-    y: usize,
-    z: usize,
-    i: usize,
-    j: usize,
-    body: &Body,
-) -> Option<Exact>
+fn term(model: &[Body], all: &[Group], y: usize, z: usize, i: usize, j: usize, body: &Body) -> Option<Exact>
     ensures { IfSome result (λ r. number r ≡ if_input body.now (exact_slope nat_eq (rows model.now) y i *ℚ exact_slope nat_eq (rows model.now) z j *ℚ covariance nat_eq (groups all.now) i j)) }
 {
     match body {
@@ -85,14 +77,7 @@ fn sum_for(model: &[Body], all: &[Group], y: usize, z: usize, i: usize) -> Optio
 }
 
 // The same where `i` is an input with this body, and 0 where it is a formula.
-fn inner_sum(
-    model: &[Body],
-    all: &[Group],
-    y: usize,
-    z: usize,
-    i: usize,
-    body: &Body,
-) -> Option<Exact>
+fn inner_sum(model: &[Body], all: &[Group], y: usize, z: usize, i: usize, body: &Body) -> Option<Exact>
     ensures { IfSome result (λ r. number r ≡ if_input body.now (total (λ j. exact_slope nat_eq (rows model.now) y i *ℚ exact_slope nat_eq (rows model.now) z j *ℚ covariance nat_eq (groups all.now) i j) (inputs_of (rows model.now)))) }
 {
     match body {
@@ -117,18 +102,8 @@ fn part(model: &[Body], one: &Group, y: usize) -> Option<Exact>
     ensures { IfSome result (λ r. number r ≡ part_of nat_eq (rows model.now) (group one.now) y) }
 {
     match one {
-        Group::Own {
-            key,
-            variance,
-            inverse_degrees: _,
-        } => weighted(model, y, y, *key, *key, *variance),
-        Group::Correlated {
-            first,
-            second,
-            correlation,
-            first_deviation,
-            second_deviation,
-        } => {
+        Group::Own { key, variance, inverse_degrees: _ } => weighted(model, y, y, *key, *key, *variance),
+        Group::Correlated { first, second, correlation, first_deviation, second_deviation } => {
             let a = *first_deviation;
             let b = *second_deviation;
             let both = correlation.times(a.times(b)?)?;
