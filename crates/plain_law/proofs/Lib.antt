@@ -6,3 +6,7 @@ mod Sizes
 mod Expansions
 mod Values
 mod Totals
+pub mod DegreeLemmas
+pub mod PlaceLemmas
+pub mod RuleLemmas
+pub mod CorrelationLemmas

@@ -2,3 +2,6 @@
 pub mod Numbers
 pub mod Models
 pub mod Groups
+pub mod DegreeViews
+pub mod DigitViews
+pub mod RuleViews

@@ -6,20 +6,31 @@
 #![tactic(auto)]
 
 mod covariances;
+mod degrees;
+#[cfg(test)]
+mod digit_tests;
+mod digits;
 mod divisor;
 mod evaluate;
 mod fraction;
 mod group;
+mod interval_rule;
 mod jet;
 mod model;
+mod place;
 mod propagation;
+mod rule;
 mod sign;
 #[cfg(test)]
 mod tests;
 
 pub use covariances::{covariance, joint, mean};
+pub use degrees::{Degrees, Level, Share, effective, factor, whole_degrees};
+pub use digits::{Digits, at_place, correlation, hundredths, two_digits};
 pub use evaluate::{derivative, value};
 pub use fraction::Exact;
 pub use group::{Column, Group, Table};
+pub use interval_rule::{Decision, Ends, Span, decide};
 pub use model::{Body, Expression, Failure};
 pub use propagation::{law, part_of};
+pub use rule::{Form, Rule, Statement, stated};
