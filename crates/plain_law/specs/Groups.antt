@@ -22,13 +22,13 @@ column c = record { key = c.key; reading = reading c.readings.items }
 abbrev pub columns : List WrittenColumn → List (Column ℕ)
 columns cs = map column cs
 
-abbrev pub group : WrittenGroup → Group ℕ
-group (AnOwn k c d) = Own k (number c) (number d)
-group (ACorrelated k m r a b) = Correlated k m (number r) (number a) (number b)
-group (AJoint t) = Joint t.records (columns t.columns.items)
+abbrev pub group_of : WrittenGroup → Group ℕ
+group_of (AnOwn k c d) = Own k (number c) (number d)
+group_of (ACorrelated k m r a b) = Correlated k m (number r) (number a) (number b)
+group_of (AJoint t) = Joint t.records (columns t.columns.items)
 
-abbrev pub groups : List WrittenGroup → List (Group ℕ)
-groups gs = map group gs
+abbrev pub groups_of : List WrittenGroup → List (Group ℕ)
+groups_of gs = map group_of gs
 
 -- x where the row is an input, and 0 where it is a formula
 abbrev pub if_input : WrittenBody → ℚ → ℚ

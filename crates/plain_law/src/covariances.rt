@@ -3,7 +3,7 @@ ghost use Rattle.exact_fraction.specs.Number.{◌*ℚ◌};
 ghost use Rattle.exact_law.specs.Sums.{total, below};
 ghost use Rattle.exact_law.specs.Law.{mean, joint, cell, covariance_in, covariance};
 ghost use Rattle.plain_law.specs.Numbers.{number};
-ghost use Rattle.plain_law.specs.Groups.{reading, column, columns, group, groups};
+ghost use Rattle.plain_law.specs.Groups.{reading, column, columns, group_of, groups_of};
 
 use crate::Exact;
 use crate::group::{Column, Group, Table};
@@ -93,10 +93,10 @@ fn in_table(table: &Table, i: usize, j: usize) -> Option<Exact>
 }
 
 // The covariance of `i` and `j` within a group.
-fn covariance_in(one: &Group, i: usize, j: usize) -> Option<Exact>
-    ensures { IfSome result (λ r. number r ≡ covariance_in nat_eq (group one.now) i j) }
+fn covariance_in(group: &Group, i: usize, j: usize) -> Option<Exact>
+    ensures { IfSome result (λ r. number r ≡ covariance_in nat_eq (group_of group.now) i j) }
 {
-    match one {
+    match group {
         Group::Own {
             key,
             variance,
@@ -122,11 +122,11 @@ fn covariance_in(one: &Group, i: usize, j: usize) -> Option<Exact>
 }
 
 /// The covariance of two inputs.
-pub fn covariance(all: &[Group], i: usize, j: usize) -> Option<Exact>
-    ensures { IfSome result (λ r. number r ≡ covariance nat_eq (groups all.now) i j) }
+pub fn covariance(groups: &[Group], i: usize, j: usize) -> Option<Exact>
+    ensures { IfSome result (λ r. number r ≡ covariance nat_eq (groups_of groups.now) i j) }
 {
     let mut sum = Exact::whole(0);
-    for group in all {
+    for group in groups {
         sum = sum.plus(covariance_in(group, i, j)?)?;
     }
     Some(sum)

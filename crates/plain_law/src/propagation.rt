@@ -5,7 +5,7 @@ ghost use Rattle.exact_law.specs.Model.{exact_slope};
 ghost use Rattle.exact_law.specs.Law.{joint, covariance, inputs_of, law, part_of};
 ghost use Rattle.plain_law.specs.Numbers.{number};
 ghost use Rattle.plain_law.specs.Models.{rows, IsAnswer};
-ghost use Rattle.plain_law.specs.Groups.{column, columns, group, groups, if_input, law_where_defined, part_where_defined};
+ghost use Rattle.plain_law.specs.Groups.{column, columns, group_of, groups_of, if_input, law_where_defined, part_where_defined};
 
 use crate::Exact;
 use crate::covariances::{covariance, joint};
@@ -15,23 +15,23 @@ use crate::model::{Body, Failure};
 
 /// The covariance of the rows `y` and `z` (JCGM 100:2008, 5.1.2, 5.2.2, H.2), and the variance of one
 /// row where they are the same.
-pub fn law(model: &[Body], all: &[Group], y: usize, z: usize) -> Result<Exact, Failure>
-    ensures { IsAnswer result (law_where_defined (rows model.now) (groups all.now) y z) }
+pub fn law(model: &[Body], groups: &[Group], y: usize, z: usize) -> Result<Exact, Failure>
+    ensures { IsAnswer result (law_where_defined (rows model.now) (groups_of groups.now) y z) }
 {
     let _first = value(model, y)?;
     let _second = value(model, z)?;
-    match double_sum(model, all, y, z) {
+    match double_sum(model, groups, y, z) {
         Some(sum) => Ok(sum),
         None => Err(Failure::TooWide),
     }
 }
 
 /// The part of a group in the variance of the row `y`.
-pub fn part_of(model: &[Body], one: &Group, y: usize) -> Result<Exact, Failure>
-    ensures { IsAnswer result (part_where_defined (rows model.now) (group one.now) y) }
+pub fn part_of(model: &[Body], group: &Group, y: usize) -> Result<Exact, Failure>
+    ensures { IsAnswer result (part_where_defined (rows model.now) (group_of group.now) y) }
 {
     let _value = value(model, y)?;
-    match part(model, one, y) {
+    match part(model, group, y) {
         Some(part) => Ok(part),
         None => Err(Failure::TooWide),
     }
@@ -58,28 +58,28 @@ fn weighted(model: &[Body], y: usize, z: usize, i: usize, j: usize, c: Exact) ->
 // The term of the double sum for `i` and `j`, where `body` is that of `j`: formulas bring none.
 fn term(
     model: &[Body],
-    all: &[Group],
+    groups: &[Group],
     y: usize,
     z: usize,
     i: usize,
     j: usize,
     body: &Body,
 ) -> Option<Exact>
-    ensures { IfSome result (λ r. number r ≡ if_input body.now (exact_slope nat_eq (rows model.now) y i *ℚ exact_slope nat_eq (rows model.now) z j *ℚ covariance nat_eq (groups all.now) i j)) }
+    ensures { IfSome result (λ r. number r ≡ if_input body.now (exact_slope nat_eq (rows model.now) y i *ℚ exact_slope nat_eq (rows model.now) z j *ℚ covariance nat_eq (groups_of groups.now) i j)) }
 {
     match body {
-        Body::Input(_) => weighted(model, y, z, i, j, covariance(all, i, j)?),
+        Body::Input(_) => weighted(model, y, z, i, j, covariance(groups, i, j)?),
         Body::Formula(_) => Some(Exact::whole(0)),
     }
 }
 
 // The terms for `i` and every input.
-fn sum_for(model: &[Body], all: &[Group], y: usize, z: usize, i: usize) -> Option<Exact>
-    ensures { IfSome result (λ r. number r ≡ total (λ j. exact_slope nat_eq (rows model.now) y i *ℚ exact_slope nat_eq (rows model.now) z j *ℚ covariance nat_eq (groups all.now) i j) (inputs_of (rows model.now))) }
+fn sum_for(model: &[Body], groups: &[Group], y: usize, z: usize, i: usize) -> Option<Exact>
+    ensures { IfSome result (λ r. number r ≡ total (λ j. exact_slope nat_eq (rows model.now) y i *ℚ exact_slope nat_eq (rows model.now) z j *ℚ covariance nat_eq (groups_of groups.now) i j) (inputs_of (rows model.now))) }
 {
     let mut sum = Exact::whole(0);
     for (j, body) in model.iter().enumerate() {
-        sum = sum.plus(term(model, all, y, z, i, j, body)?)?;
+        sum = sum.plus(term(model, groups, y, z, i, j, body)?)?;
     }
     Some(sum)
 }
@@ -87,36 +87,36 @@ fn sum_for(model: &[Body], all: &[Group], y: usize, z: usize, i: usize) -> Optio
 // The same where `i` is an input with this body, and 0 where it is a formula.
 fn inner_sum(
     model: &[Body],
-    all: &[Group],
+    groups: &[Group],
     y: usize,
     z: usize,
     i: usize,
     body: &Body,
 ) -> Option<Exact>
-    ensures { IfSome result (λ r. number r ≡ if_input body.now (total (λ j. exact_slope nat_eq (rows model.now) y i *ℚ exact_slope nat_eq (rows model.now) z j *ℚ covariance nat_eq (groups all.now) i j) (inputs_of (rows model.now)))) }
+    ensures { IfSome result (λ r. number r ≡ if_input body.now (total (λ j. exact_slope nat_eq (rows model.now) y i *ℚ exact_slope nat_eq (rows model.now) z j *ℚ covariance nat_eq (groups_of groups.now) i j) (inputs_of (rows model.now)))) }
 {
     match body {
-        Body::Input(_) => sum_for(model, all, y, z, i),
+        Body::Input(_) => sum_for(model, groups, y, z, i),
         Body::Formula(_) => Some(Exact::whole(0)),
     }
 }
 
 // The sum over all pairs of inputs.
-fn double_sum(model: &[Body], all: &[Group], y: usize, z: usize) -> Option<Exact>
-    ensures { IfSome result (λ r. number r ≡ law nat_eq (rows model.now) (groups all.now) y z) }
+fn double_sum(model: &[Body], groups: &[Group], y: usize, z: usize) -> Option<Exact>
+    ensures { IfSome result (λ r. number r ≡ law nat_eq (rows model.now) (groups_of groups.now) y z) }
 {
     let mut sum = Exact::whole(0);
     for (i, body) in model.iter().enumerate() {
-        sum = sum.plus(inner_sum(model, all, y, z, i, body)?)?;
+        sum = sum.plus(inner_sum(model, groups, y, z, i, body)?)?;
     }
     Some(sum)
 }
 
 // The part of a group; `None` also where a sensitivity is not defined.
-fn part(model: &[Body], one: &Group, y: usize) -> Option<Exact>
-    ensures { IfSome result (λ r. number r ≡ part_of nat_eq (rows model.now) (group one.now) y) }
+fn part(model: &[Body], group: &Group, y: usize) -> Option<Exact>
+    ensures { IfSome result (λ r. number r ≡ part_of nat_eq (rows model.now) (group_of group.now) y) }
 {
-    match one {
+    match group {
         Group::Own {
             key,
             variance,

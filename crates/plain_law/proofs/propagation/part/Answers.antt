@@ -7,12 +7,12 @@ use Rattle.exact_law.specs.Law.{part_of}
 use Rattle.exact_law.specs.Law.{part as exact_part}
 use Rattle.plain_law.specs.Numbers.{number}
 use Rattle.plain_law.specs.Models.{rows}
-use Rattle.plain_law.specs.Groups.{group}
+use Rattle.plain_law.specs.Groups.{group_of}
 use Rattle.plain_law.proofs.propagation.part.Goals as goal
 
 pub returns-in-Own : goal.returns-in-Own
 unfolding part_of exact_part
-returns-in-Own c = IfSome_then c.weighted.result c.weighted.ensures (λ r e. e ∙ sym (ap (λ g. part_of nat_eq (rows c.args.model.now) (group g) c.args.y) c.in-Own.is))
+returns-in-Own c = IfSome_then c.weighted.result c.weighted.ensures (λ r e. e ∙ sym (ap (λ g. part_of nat_eq (rows c.args.model.now) (group_of g) c.args.y) c.in-Own.is))
 
 pub returns-in_ok-plus-in-Correlated : goal.returns-in_ok-plus-in-Correlated
 unfolding part_of exact_part
@@ -31,8 +31,8 @@ returns-in_ok-plus-in-Correlated c =
     (c.in_ok-plus-in-Correlated.ensures
     ∙ ap₂ ◌+ℚ◌ (c.in_ok-shared-in-Correlated.ensures ∙ ap (λ t. u k *ℚ u m *ℚ t) both)
     (c.in_ok-weighted-in-Correlated-2.ensures ∙ ap (λ t. u m *ℚ u k *ℚ t) both))
-    ∙ sym (ap (λ g. part_of nat_eq (rows c.args.model.now) (group g) c.args.y) c.in-Correlated.is))
+    ∙ sym (ap (λ g. part_of nat_eq (rows c.args.model.now) (group_of g) c.args.y) c.in-Correlated.is))
 
 pub returns-in-Joint : goal.returns-in-Joint
 unfolding part_of exact_part
-returns-in-Joint c = IfSome_then c.table_part.result c.table_part.ensures (λ r e. e ∙ sym (ap (λ g. part_of nat_eq (rows c.args.model.now) (group g) c.args.y) c.in-Joint.is))
+returns-in-Joint c = IfSome_then c.table_part.result c.table_part.ensures (λ r e. e ∙ sym (ap (λ g. part_of nat_eq (rows c.args.model.now) (group_of g) c.args.y) c.in-Joint.is))
