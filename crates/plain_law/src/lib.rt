@@ -2,7 +2,8 @@
 //! program beside the definitions of `exact_law`, by which they are read against worked examples.
 //!
 //! A call answers `None`, or fails by [`Failure::TooWide`], where 128 bits do not hold a number on its
-//! way; else its answer is the number of the definitions.
+//! way. Every other answer is proved to be that of the definitions; that these two come only there is
+//! not proved, and the tests show that the worked examples are held.
 #![tactic(auto)]
 
 mod covariances;

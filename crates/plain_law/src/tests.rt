@@ -1,6 +1,6 @@
 use crate::{
-    Body, Column, Exact, Expression, Failure, Group, Table, covariance, derivative, joint, law,
-    mean, part_of, value,
+    Body, Column, Degrees, Exact, Expression, Failure, Group, Share, Table, covariance, derivative,
+    effective, joint, law, mean, part_of, value,
 };
 use std::alloc::{AllocError, Global};
 use std::process::Abort;
@@ -197,6 +197,57 @@ fn calibration(rt: HostRuntime) -> Result<(), Fail> {
     assert!(rt; is(value(&model, 3), 100_011, 1000));
     assert!(rt; is(law(&model, &groups, 3, 3), 3803, 6_000_000));
     assert!(rt; is(part_of(&model, &groups[1], 3), 5, 10_000_000));
+    Ok(())
+}
+
+fn share(
+    model: &[Body],
+    group: &Group,
+    y: usize,
+    inverse_degrees: Exact,
+) -> Result<Share, &'static str> {
+    match part_of(model, group, y) {
+        Ok(part) => Ok(Share {
+            part,
+            inverse_degrees,
+        }),
+        Err(_) => Err("held"),
+    }
+}
+
+fn finite(degrees: Option<Degrees>) -> Result<Exact, Failure> {
+    match degrees {
+        Some(Degrees::Finite(number)) => Ok(number),
+        _ => Err(Failure::Undefined),
+    }
+}
+
+// A = 1 ± 1 and B = 1 ± 1, each with 5 degrees of freedom, S = A + B: 10 degrees together.
+#[test]
+fn degrees_of_a_sum(rt: HostRuntime) -> Result<(), Fail> {
+    let alloc = rt.alloc();
+    let fifth = ratio(1, 5)?;
+    let mut model = Vec::new(alloc);
+    model.push(input(1, 1)?)?;
+    model.push(input(1, 1)?)?;
+    model.push(Body::Formula(sum(alloc, Expression::Key(0), Expression::Key(1))?))?;
+    let mut groups = Vec::new(alloc);
+    for key in 0..2 {
+        groups.push(Group::Own {
+            key,
+            variance: Exact::whole(1),
+            inverse_degrees: fifth,
+        })?;
+    }
+    let Ok(variance) = law(&model, &groups, 2, 2) else {
+        return Err("held".into());
+    };
+    let mut shares = Vec::new(alloc);
+    for group in &groups {
+        shares.push(share(&model, group, 2, fifth)?)?;
+    }
+    assert!(rt; is(Ok(variance), 2, 1));
+    assert!(rt; is(finite(effective(variance, &shares)), 10, 1));
     Ok(())
 }
 
