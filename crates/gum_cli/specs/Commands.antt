@@ -21,16 +21,24 @@ pub data Line : Type 0 where
   Refused : RowFault → Line
   Carried : Command → Line
 
-abbrev pub is_one_of : List (List ℕ) → List ℕ → Bool
-is_one_of [] text = false
-is_one_of (t ∷ ts) text = bytes_eq text t || is_one_of ts text
+-- words that begin a command of the language that this version does not have
+abbrev pub is_other_edit : List ℕ → Bool
+is_other_edit text =
+    bytes_eq text (codes "set") || (bytes_eq text (codes "remove") || (bytes_eq text (codes "undo") || (bytes_eq text (codes "redo")
+    || (bytes_eq text (codes "mark") || bytes_eq text (codes "restore")))))
 
--- commands of the language that this version does not have
-abbrev pub other_commands : List (List ℕ)
-other_commands =
-    codes "set" ∷ codes "remove" ∷ codes "undo" ∷ codes "redo" ∷ codes "mark" ∷ codes "restore" ∷ codes "at" ∷ codes "var"
-    ∷ codes "cov" ∷ codes "r" ∷ codes "sens" ∷ codes "dof" ∷ codes "report" ∷ codes "expanded" ∷ codes "decide" ∷ codes "budget"
-    ∷ codes "dump" ∷ []
+abbrev pub is_other_query : List ℕ → Bool
+is_other_query text =
+    bytes_eq text (codes "at") || (bytes_eq text (codes "var") || (bytes_eq text (codes "cov") || (bytes_eq text (codes "r")
+    || (bytes_eq text (codes "sens") || bytes_eq text (codes "dump")))))
+
+abbrev pub is_other_result : List ℕ → Bool
+is_other_result text =
+    bytes_eq text (codes "dof") || (bytes_eq text (codes "report") || (bytes_eq text (codes "expanded")
+    || (bytes_eq text (codes "decide") || bytes_eq text (codes "budget"))))
+
+abbrev pub is_other_command : List ℕ → Bool
+is_other_command text = is_other_edit text || (is_other_query text || is_other_result text)
 
 -- a superfluous word
 abbrev pub alone : List ℕ → List Word → Line
@@ -53,7 +61,7 @@ abbrev pub line_with : List ℕ → ℕ → List Word → Line
 line_with line end [] = Blank
 line_with line end (w ∷ ws) =
     if bytes_eq w.text (codes "value") then query_of end ws
-    else (if is_one_of other_commands w.text then Refused NotBuilt else row_line (row_read line 0))
+    else (if is_other_command w.text then Refused NotBuilt else row_line (row_read line 0))
 
 -- what the line is
 unfoldable pub read_line : List ℕ → Line

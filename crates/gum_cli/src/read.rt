@@ -2,7 +2,7 @@
 
 ghost use Rattle.std.specs.Prelude.{◌≡◌, ◌<◌, ◌^◌, ◌+◌, IfOk, length};
 ghost use Rattle.line_words.specs.Words.{words};
-ghost use Rattle.gum_cli.specs.Commands.{is_one_of, other_commands, alone, query_of, read_line, LineHasExponents};
+ghost use Rattle.gum_cli.specs.Commands.{is_other_edit, is_other_query, is_other_result, is_other_command, alone, query_of, read_line, LineHasExponents};
 ghost use Rattle.gum_cli.specs.Views.{line_of};
 
 use crate::line::{Command, Line};
@@ -15,30 +15,32 @@ use std::alloc::Global;
 /// The query of a value.
 const VALUE: &[u8] = b"value";
 
+/// Whether the word begins an edit or a step that this version does not have.
+fn is_other_edit(word: &[u8]) -> bool
+    ensures { result ≡ is_other_edit word.now }
+{
+    word == b"set" || word == b"remove" || word == b"undo" || word == b"redo" || word == b"mark" || word == b"restore"
+}
+
+/// Whether the word begins a query that this version does not have.
+fn is_other_query(word: &[u8]) -> bool
+    ensures { result ≡ is_other_query word.now }
+{
+    word == b"at" || word == b"var" || word == b"cov" || word == b"r" || word == b"sens" || word == b"dump"
+}
+
+/// Whether the word begins a query for a result that this version does not have.
+fn is_other_result(word: &[u8]) -> bool
+    ensures { result ≡ is_other_result word.now }
+{
+    word == b"dof" || word == b"report" || word == b"expanded" || word == b"decide" || word == b"budget"
+}
+
 /// Whether the word begins a command that this version does not have.
 fn is_other_command(word: &[u8]) -> bool
-    ensures { result ≡ is_one_of other_commands word.now }
+    ensures { result ≡ is_other_command word.now }
 {
-    const COMMANDS: [&[u8]; 17] = [
-        b"set",
-        b"remove",
-        b"undo",
-        b"redo",
-        b"mark",
-        b"restore",
-        b"at",
-        b"var",
-        b"cov",
-        b"r",
-        b"sens",
-        b"dof",
-        b"report",
-        b"expanded",
-        b"decide",
-        b"budget",
-        b"dump",
-    ];
-    COMMANDS.iter().any(|command| word == *command)
+    is_other_edit(word) || is_other_query(word) || is_other_result(word)
 }
 
 /// The query of the value of `name`, where no word stands behind it, from the place `at` on.

@@ -2,7 +2,7 @@ ghost use Rattle.std.specs.Prelude.{◌≡◌, List, IfOk, OnOk};
 ghost use Rattle.decimal18.specs.Bound.{Bound};
 ghost use Rattle.formula_ast.specs.Trees.{HasExponents};
 ghost use Rattle.formula_ast.specs.Views.{tree_of};
-ghost use Rattle.sheet_rows.specs.Rows.{Row, Given, Formula};
+ghost use Rattle.sheet_rows.specs.Rows.{Given, Formula as FormulaRow};
 ghost use Rattle.type_b.specs.declared.shape.Shape.{Shape};
 ghost use Rattle.type_b.specs.declared.shape.Dof.{Dof};
 ghost use Rattle.sheet_values.specs.Quantities.{Quantity};
@@ -81,9 +81,9 @@ fn add_formula<L: Ledger>(
 ) -> Result<Reply, OutOfMemory>
     requires { HasExponents (tree_of formula.now) }
     ensures reply { (qs : List Quantity) → Keeps qs values.old
-        → IfOk result (λ reply. reply ≡ reply_to qs (Add (Formula name (tree_of formula.now)))) }
+        → IfOk result (λ reply. reply ≡ reply_to qs (Add (FormulaRow name (tree_of formula.now)))) }
     ensures sheet { (qs : List Quantity) → Keeps qs values.old
-        → OnOk result (Keeps (sheet_after qs (Add (Formula name (tree_of formula.now)))) values.new) }
+        → OnOk result (Keeps (sheet_after qs (Add (FormulaRow name (tree_of formula.now)))) values.new) }
 {
     if values.get(name).is_some() {
         return Ok(Reply::Duplicate(name));
