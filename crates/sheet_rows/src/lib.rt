@@ -1,7 +1,15 @@
-//! The rows of a sheet, and the edits of it.
+//! The rows of a sheet: how they are read from a line and printed, and the edits of a sheet.
 #![tactic(auto)]
 
+mod fault;
+mod print;
+mod read;
+mod read_given;
+mod read_let;
 mod row;
 
 pub use decimal18::OutOfMemory;
+pub use fault::RowFault;
+pub use print::print_row;
+pub use read::read_row;
 pub use row::Row;
