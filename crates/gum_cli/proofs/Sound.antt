@@ -2,22 +2,23 @@
 use Rattle.std.specs.Prelude.{◌≡◌, ℕ, Bool, true, false, if◌then◌else◌, List, [], ◌∷◌, ◌++◌, Option, Some, None, Result, Ok, Err, refl}
 use Rattle.std.proofs.Common.{subst}
 use Rattle.sheet_rows.specs.Rows.{Row, Given, Formula}
+use Rattle.sheet_rows.specs.Regular.{IsRegular}
 use Rattle.sheet_values.specs.Quantities.{Quantity}
 use Rattle.sheet_values.specs.Evaluations.{evaluation_of}
 use Rattle.sheet_values.specs.Model.{BodyHasExponents, AllHaveExponents}
 use Rattle.sheet_values.specs.declared.evaluation.Evaluation.{Evaluation}
 use Rattle.sheet_values.specs.declared.evaluation.Evaluation.TheVariants.{Enclosed, Fault}
 use Rattle.sheet_values.proofs.Sound.{values_enclosed}
-use Rattle.gum_cli.specs.Commands.{Command, Add, Value, Line, Blank, Refused, Carried, read_line, RowHasExponents, CommandHasExponents, LineHasExponents}
+use Rattle.gum_cli.specs.Commands.{Command, Add, Value, Line, Blank, Refused, Carried, read_line, IsRegularLine}
 use Rattle.gum_cli.specs.Script.{Sheet, name_of, quantity_of, unknown_in, unless_unknown, evaluated, reply_to, is_accepted, sheet_after, replies_of, sheet_behind, IsSound, AllSound, AreSound}
 use Rattle.gum_cli.specs.declared.reply.Reply.{Reply}
 use Rattle.gum_cli.specs.declared.reply.Reply.TheVariants.{Duplicate}
-use Rattle.gum_cli.proofs.Reading.{line_exponents}
+use Rattle.gum_cli.proofs.Reading.{line_regular}
 
 -- ---- the exponents of a sheet
-quantity_exponents : (row : Row) → RowHasExponents row → BodyHasExponents ((quantity_of row).body)
+quantity_exponents : (row : Row) → IsRegular row → BodyHasExponents ((quantity_of row).body)
 quantity_exponents (Given name estimate shape dof) h = tt
-quantity_exponents (Formula name f) h = h
+quantity_exponents (Formula name f) h = h.1
 
 exponents-added : (sheet : Sheet) (q : Quantity) → AllHaveExponents sheet → BodyHasExponents q.body → AllHaveExponents (sheet ++ q ∷ [])
 exponents-added [] q h k = (k, tt)
@@ -27,7 +28,7 @@ if_exponents : (test : Bool) (a b : Sheet) → AllHaveExponents a → AllHaveExp
 if_exponents true a b h k = h
 if_exponents false a b h k = k
 
-after_exponents : (sheet : Sheet) (line : Line) → AllHaveExponents sheet → LineHasExponents line → AllHaveExponents (sheet_behind sheet line)
+after_exponents : (sheet : Sheet) (line : Line) → AllHaveExponents sheet → IsRegularLine line → AllHaveExponents (sheet_behind sheet line)
 after_exponents sheet Blank h k = h
 after_exponents sheet (Refused fault) h k = h
 after_exponents sheet (Carried (Value name)) h k = h
@@ -61,7 +62,7 @@ line_sound sheet h (Carried command) = (reply_sound sheet h command, tt)
 sound_from : (sheet : Sheet) → AllHaveExponents sheet → (lines : List (List ℕ)) → AreSound sheet lines
 sound_from sheet h [] = tt
 sound_from sheet h (line ∷ lines) =
-    (line_sound sheet h (read_line line), sound_from (sheet_behind sheet (read_line line)) (after_exponents sheet (read_line line) h (line_exponents line)) lines)
+    (line_sound sheet h (read_line line), sound_from (sheet_behind sheet (read_line line)) (after_exponents sheet (read_line line) h (line_regular line)) lines)
 
 pub all_sound : (lines : List (List ℕ)) → AreSound [] lines
 all_sound lines = sound_from [] tt lines

@@ -1,10 +1,9 @@
 -- What a line of the script is: nothing, a command, or a refusal, with its place in the line counted from 1.
-use Rattle.std.specs.Prelude.{ℕ, ◌+◌, ◌||◌, Bool, true, false, if◌then◌else◌, List, [], ◌∷◌, Result, Ok, Err, bytes_eq, codes}
+use Rattle.std.specs.Prelude.{ℕ, ◌+◌, ◌||◌, Bool, true, false, if◌then◌else◌, List, [], ◌∷◌, length, Result, Ok, Err, bytes_eq, codes}
 use Rattle.formula_ast.specs.Names.{is_plain_name, is_name}
-use Rattle.formula_ast.specs.Trees.{HasExponents}
-use Rattle.formula_ast.specs.Rules.{written_len}
-use Rattle.line_words.specs.Words.{Word, words, without_comment}
-use Rattle.sheet_rows.specs.Rows.{Row, Given, Formula}
+use Rattle.line_words.specs.Words.{Word, words_from, written_part}
+use Rattle.sheet_rows.specs.Rows.{Row}
+use Rattle.sheet_rows.specs.Regular.{IsRegular}
 use Rattle.sheet_rows.specs.Reading.{Read, row_read}
 use Rattle.sheet_rows.specs.declared.fault.RowFault.{RowFault}
 use Rattle.sheet_rows.specs.declared.fault.RowFault.TheVariants.{Syntax, NotBuilt}
@@ -45,7 +44,7 @@ abbrev pub alone : List ℕ → List Word → Line
 alone name [] = Carried (Value name)
 alone name (w ∷ ws) = Refused (Syntax (w.place + 1))
 
--- `value NAME`, in a line that ends at `end`; the name of a column is a form that this version does not have
+-- `value NAME`, in a line of the length `end`; the name of a column is a form that this version does not have
 abbrev pub query_of : ℕ → List Word → Line
 query_of end [] = Refused (Syntax (end + 1))
 query_of end (w ∷ ws) =
@@ -57,26 +56,23 @@ row_line (Ok row) = Carried (Add row)
 row_line (Err fault) = Refused fault
 
 -- what the line is, where its comment left these words and this length
-abbrev pub line_with : List ℕ → ℕ → List Word → Line
-line_with line end [] = Blank
-line_with line end (w ∷ ws) =
-    if bytes_eq w.text (codes "value") then query_of end ws
+-- what a line without its comment and its last blanks is, where it has these words
+abbrev pub line_with : List ℕ → List ℕ → List Word → Line
+line_with line part [] = Blank
+line_with line part (w ∷ ws) =
+    if bytes_eq w.text (codes "value") then query_of (length part) ws
     else (if is_other_command w.text then Refused NotBuilt else row_line (row_read line 0))
 
 -- what the line is
 unfoldable pub read_line : List ℕ → Line
-read_line line = line_with line (written_len (without_comment line)) (words (without_comment line) 0 0)
+read_line line = line_with line (written_part line) (words_from (written_part line) 0)
 
--- the exponents in the formula of a row are from -9 to 9 and not 0
-abbrev pub RowHasExponents : Row → Type 0
-RowHasExponents (Given name estimate shape dof) = Unit {0}
-RowHasExponents (Formula name f) = HasExponents f
+-- what a line adds is a regular row
+abbrev pub IsRegularCommand : Command → Type 0
+IsRegularCommand (Add row) = IsRegular row
+IsRegularCommand (Value name) = Unit {0}
 
-abbrev pub CommandHasExponents : Command → Type 0
-CommandHasExponents (Add row) = RowHasExponents row
-CommandHasExponents (Value name) = Unit {0}
-
-abbrev pub LineHasExponents : Line → Type 0
-LineHasExponents Blank = Unit {0}
-LineHasExponents (Refused fault) = Unit {0}
-LineHasExponents (Carried command) = CommandHasExponents command
+abbrev pub IsRegularLine : Line → Type 0
+IsRegularLine Blank = Unit {0}
+IsRegularLine (Refused fault) = Unit {0}
+IsRegularLine (Carried command) = IsRegularCommand command

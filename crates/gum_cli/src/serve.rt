@@ -7,7 +7,7 @@ ghost use Rattle.type_b.specs.declared.shape.Shape.{Shape};
 ghost use Rattle.type_b.specs.declared.shape.Dof.{Dof};
 ghost use Rattle.sheet_values.specs.Quantities.{Quantity};
 ghost use Rattle.sheet_values.specs.Cells.{Keeps};
-ghost use Rattle.gum_cli.specs.Commands.{Add, Value, CommandHasExponents};
+ghost use Rattle.gum_cli.specs.Commands.{Add, Value, IsRegularCommand};
 ghost use Rattle.gum_cli.specs.Views.{command_of};
 ghost use Rattle.gum_cli.specs.Script.{reply_to, sheet_after};
 
@@ -28,7 +28,7 @@ pub(crate) fn serve<L: Ledger>(
     command: &Command,
     steps: &mut Steps<L>,
 ) -> Result<Reply, OutOfMemory>
-    requires { CommandHasExponents (command_of command.now) }
+    requires { IsRegularCommand (command_of command.now) }
     ensures reply { (qs : List Quantity) → Keeps qs values.old → IfOk result (λ reply. reply ≡ reply_to qs (command_of command.now)) }
     ensures sheet { (qs : List Quantity) → Keeps qs values.old → OnOk result (Keeps (sheet_after qs (command_of command.now)) values.new) }
 {
