@@ -1,5 +1,5 @@
 -- The printed text of a row is read as the row again.
-use Rattle.std.proofs.Common.{append_assoc, ◌≡◌, ℕ, zero, suc, ◌+◌, ◌<◌, ◌≤◌, ◌&&◌, Bool, true, false, cond, List, [], ◌∷◌, ◌++◌, length, take, drop, refl, sym, ◌∙◌, ap, arith, Ok}
+use Rattle.std.proofs.Common.{append_assoc, ◌≡◌, ℕ, ◌+◌, ◌<◌, Bool, true, false, List, [], ◌∷◌, ◌++◌, length, take, drop, refl, sym, ◌∙◌, ap, arith, Ok}
 use Rattle.std.specs.Prelude.{codes, not}
 use Rattle.std.specs.List.{list_all, prefix_len}
 use mathlib.Core.List.{append-nil}
@@ -17,15 +17,15 @@ use Rattle.formula_ast.specs.Reading.{reading_of}
 use Rattle.formula_ast.specs.Printing.{print}
 use Rattle.formula_ast.proofs.Again.{read_regular, read_again as formula_again}
 use Rattle.formula_ast.proofs.PrintedNumbers.{run_whole}
-use Rattle.line_words.specs.Words.{Word, is_in_word, is_no_hash, words, words_from, written_part}
+use Rattle.line_words.specs.Words.{Word, is_in_word, words, written_part}
 use Rattle.line_words.proofs.WordSteps.{front_words, drop_twice}
-use Rattle.type_b.specs.Shapes.{checked, is_negative}
+use Rattle.type_b.specs.Shapes.{checked}
 use Rattle.type_b.specs.declared.shape.Shape.{Shape}
 use Rattle.type_b.specs.declared.shape.Shape.TheVariants.{Exact, Std}
 use Rattle.type_b.specs.declared.shape.Dof.TheVariants.{Inf}
 use Rattle.sheet_rows.specs.Rows.{Row, Given, Formula}
-use Rattle.sheet_rows.specs.Reading.{plain_word, number_word, shape_word, given_of, past_blanks, front_name, is_in_name, begins_equals, let_of, row_at, row_from, row_read}
-use Rattle.sheet_rows.specs.Regular.{HasText, IsStated, IsPrintable}
+use Rattle.sheet_rows.specs.Reading.{shape_word, given_of, past_blanks, front_name, is_in_name, begins_equals, let_of, row_at, row_from, row_read}
+use Rattle.sheet_rows.specs.Regular.{IsStated, IsPrintable}
 use Rattle.sheet_rows.specs.Printing.{shape_text, printed}
 use Rattle.sheet_rows.proofs.MovedPlaces.{read_behind_blank}
 use Rattle.sheet_rows.proofs.PlainBytes.{ArePlain, all_in_word, all_no_hash, all_in_name, names_plain, name_some, text_plain, text_some}
@@ -65,9 +65,9 @@ shape_again Exact end at h = ap (λ ws. shape_word end ws) (last_word (codes "ex
 shape_again (Std u) end at h =
     let plain : ArePlain (text_of u) = text_plain u h.0.bound in
     let parts : words (codes "std" ++ 32 ∷ text_of u) 0 at
-        ≡ record { place = at; text = codes "std" } ∷ record { place = at + 3 + 1; text = text_of u } ∷ []
-        = front_word (codes "std") (32 ∷ text_of u) at refl (omega arith) refl
-        ∙ ap (λ ws. record { place = at; text = codes "std" } ∷ ws) (last_word (text_of u) (at + 3 + 1) (all_in_word (text_of u) plain) (text_some u h.0.bound)) in
+    ≡ record { place = at; text = codes "std" } ∷ record { place = at + 3 + 1; text = text_of u } ∷ []
+    = front_word (codes "std") (32 ∷ text_of u) at refl (omega arith) refl
+    ∙ ap (λ ws. record { place = at; text = codes "std" } ∷ ws) (last_word (text_of u) (at + 3 + 1) (all_in_word (text_of u) plain) (text_some u h.0.bound)) in
     ap (λ ws. shape_word end ws) parts ∙ number (text_of u) u (bound_again u h.0.bound h.0.canonical) where
       number : (t : List ℕ) (u : Bound) → parsed t ≡ Ok u →
           shape_word end (record { place = at; text = codes "std" } ∷ record { place = at + 3 + 1; text = t } ∷ [])
@@ -144,11 +144,11 @@ formula_row name f plain read =
     let some : 0 < length name = name_some name plain in
     let start : past_blanks line 3 ≡ 4 = ap (λ n. 3 + (1 + n)) (no_blanks name rest (all_in_word name all) some) in
     let behind : drop (4 + length name) line ≡ rest
-        = ap (λ n. drop n line) (omega arith) ∙ behind_name name rest 0 in
+    = ap (λ n. drop n line) (omega arith) ∙ behind_name name rest 0 in
     let gap : past_blanks line (4 + length name) ≡ 4 + length name + 1 = ap (λ t. 4 + length name + prefix_len is_blank t) behind in
     let equals : begins_equals (drop (4 + length name + 1) line) ≡ true = ap begins_equals (behind_name name rest 1) in
     let text : drop (4 + length name + 1 + 1) line ≡ 32 ∷ print f
-        = ap (λ n. drop n line) (omega arith) ∙ behind_name name rest 2 in
+    = ap (λ n. drop n line) (omega arith) ∙ behind_name name rest 2 in
     ap (λ ws. row_at line ws) (front_word (codes "let") (32 ∷ (name ++ rest)) 0 refl (omega arith) refl)
     ∙ let_again line name f 3 4 (4 + length name + 1) start (name_again name rest (all_in_name name all) refl) plain gap equals
     (ap reading_of text ∙ read_behind_blank (print f) f read)
