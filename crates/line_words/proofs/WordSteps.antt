@@ -116,7 +116,7 @@ no_words text rest at blanks passed is none =
     let spread : words text 0 at ≡ words rest 0 (at + blanks) = rw (is, passed) (blanks_passed text at) in
     spread ∙ none_left rest (at + blanks) none
 
-drop_twice : (xs : List ℕ) (m n : ℕ) → drop n (drop m xs) ≡ drop (m + n) xs
+pub drop_twice : (xs : List ℕ) (m n : ℕ) → drop n (drop m xs) ≡ drop (m + n) xs
 drop_twice xs zero n = let e : 0 + n ≡ n = omega arith in rw e refl
 drop_twice [] (suc m) zero = let e : suc m + 0 ≡ suc m = omega arith in rw e refl
 drop_twice [] (suc m) (suc n) = let e : suc m + suc n ≡ suc (m + suc n) = omega arith in rw e refl

@@ -1,3 +1,7 @@
 pub mod Placing
 pub mod LineEnds
 pub mod RegularRows
+pub mod MovedPlaces
+pub mod PlainBytes
+pub mod SolidTexts
+pub mod PrintedRows

@@ -1,5 +1,5 @@
 -- Where a line is read from a place behind its end.
-use Rattle.std.proofs.Common.{◌≡◌, ℕ, zero, suc, ◌+◌, ◌<◌, ◌≤◌, List, [], ◌∷◌, length, drop, Err, refl, ap, ◌∙◌, arith}
+use Rattle.std.proofs.Common.{◌≡◌, ℕ, zero, suc, ◌+◌, ◌<◌, ◌≤◌, List, [], ◌∷◌, length, drop, Err, refl, ap, arith}
 use Rattle.line_words.specs.Words.{words}
 use Rattle.sheet_rows.specs.Reading.{row_at, row_from}
 use Rattle.sheet_rows.specs.declared.fault.RowFault.TheVariants.{Syntax}

@@ -1,5 +1,5 @@
 -- The place of a formula's fault is within its text.
-use Rattle.std.proofs.Common.{◌≡◌, ℕ, zero, suc, ◌+◌, ◌-◌, ◌<◌, ◌≤◌, ◌==◌, ◌||◌, Bool, true, false, cond, min, List, [], ◌∷◌, length, take, drop, refl, sym, ◌∙◌, ap, arith, length-drop, Option, None, Some, Result, Ok, Err, IfSome, IfErr}
+use Rattle.std.proofs.Common.{◌≡◌, ℕ, zero, suc, ◌+◌, ◌-◌, ◌≤◌, ◌==◌, ◌||◌, Bool, true, false, cond, min, List, [], ◌∷◌, length, drop, arith, length-drop, Option, None, Some, Result, IfSome, IfErr}
 use Rattle.std.specs.List.{prefix_len}
 use Rattle.std.specs.Char.{is_ascii_digit}
 use Rattle.std.proofs.lemmas.List.Sums.{prefix_len-le-length}
@@ -8,7 +8,7 @@ use Rattle.formula_ast.specs.Trees.{Tree}
 use Rattle.formula_ast.specs.Names.{begins_name}
 use Rattle.formula_ast.specs.Tokens.{is_blank, goes_on_run, with_point, point_len, sign_len, with_letter, exponent_len, literal_len, len_of, kind_of, Token, tokens}
 use Rattle.formula_ast.specs.Machine.{Stage, AtOperand, AtAtom, AtEnd, AtExponent, first_stage, trees, step, finish}
-use Rattle.formula_ast.specs.Reading.{operand_fault, exponent_fault, word_fault, is_too_deep, is_node, or_else, refusal, behind_glued, syntax_place, opens_next, at_end, unless_refused, goes_on, node_count, most_nodes, reading, reading_of}
+use Rattle.formula_ast.specs.Reading.{operand_fault, exponent_fault, word_fault, is_too_deep, or_else, refusal, behind_glued, syntax_place, opens_next, at_end, unless_refused, goes_on, node_count, reading, reading_of}
 use Rattle.formula_ast.specs.Answers.{Fails}
 use Rattle.formula_ast.specs.declared.token.Kind.{Kind}
 use Rattle.formula_ast.specs.declared.token.Kind.TheVariants.{Number as NumberToken, Name, Joins, Hat, Open, Close, Glued, Wrong}

@@ -1,7 +1,7 @@
 -- What a line gives as a row: the line without its comment and its last blanks. It is read from left to right,
 -- and the first word or token that breaks a rule decides; its place is counted from 1. Where the line ends too
 -- early, the place is the one behind its end.
-use Rattle.std.specs.Prelude.{ℕ, zero, suc, ◌+◌, ◌==◌, ◌||◌, Bool, true, false, not, if◌then◌else◌, List, [], ◌∷◌, length, take, drop, Result, Ok, Err, bytes_eq, codes}
+use Rattle.std.specs.Prelude.{ℕ, ◌+◌, ◌==◌, ◌||◌, Bool, false, not, if◌then◌else◌, List, [], ◌∷◌, length, take, drop, Result, Ok, Err, bytes_eq, codes}
 use Rattle.std.specs.List.{prefix_len}
 use Rattle.decimal18.specs.Bound.{Bound}
 use Rattle.decimal18.specs.Literal.{parsed}

@@ -1,4 +1,3 @@
-use Rattle.std.proofs.Common.{length, sym}
 use Rattle.sheet_rows.specs.Reading.{row_read}
 use Rattle.sheet_rows.proofs.LineEnds.{behind_end}
 use Rattle.sheet_rows.proofs.read.read_row.Goals as goal
