@@ -2,6 +2,7 @@
 #![tactic(auto)]
 
 mod edit_fault;
+mod edits;
 mod row;
 mod sheet;
 mod users;

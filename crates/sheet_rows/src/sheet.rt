@@ -5,18 +5,13 @@ ghost use Rattle.sheet_rows.specs.Sheets.{IsWellFormed, added, set_row, removed,
 ghost use Rattle.sheet_rows.specs.Places.{sheet_of, place_of, code_name, is_known_with, stands_before, IsVerdict};
 ghost use Rattle.sheet_rows.specs.declared.edit_fault.EditFault.TheVariants.{Unknown, NotEarlier};
 
-use crate::edit_fault::EditFault;
 use crate::row::Row;
-use crate::users::first_user;
 use decimal18::OutOfMemory;
 use formula_ast::Name;
 use indexmap::IndexMap;
 use std::alloc::Global;
 use std::marker::Model;
 use std::rc::Rc;
-
-/// The most rows of a sheet.
-const ROW_LIMIT: usize = 4096;
 
 /// A list of rows, found by their places and by their names. Contracts see it as the list of its rows;
 /// copies of a sheet share them.
@@ -99,8 +94,12 @@ impl Sheet {
         })
     }
 
+    pub(crate) fn allocator(&self) -> Global {
+        self.alloc
+    }
+
     // Puts a row of a new name last.
-    fn push(&mut self, name: Name, row: Rc<Row>) -> Result<(), OutOfMemory>
+    pub(crate) fn push(&mut self, name: Name, row: Rc<Row>) -> Result<(), OutOfMemory>
         requires named { name ≡ code_name row.value }
         requires new { place_of (sheet_of self.old) name ≡ None }
         ensures ok { OnOk result (self.new ≡ self.old ++ row.value ∷ []) }
@@ -111,7 +110,7 @@ impl Sheet {
     }
 
     // Puts the row in the place of one of the same name, and hands that out.
-    fn exchange(&mut self, at: usize, row: Rc<Row>) -> Rc<Row>
+    pub(crate) fn exchange(&mut self, at: usize, row: Rc<Row>) -> Rc<Row>
         requires { option_map code_name (slice_get self.old at) ≡ Some (code_name row.value) }
         ensures old { slice_get self.old at ≡ Some result.value }
         ensures new { self.new ≡ slice_set self.old at row.value }
@@ -120,7 +119,7 @@ impl Sheet {
     }
 
     // Takes the row at a place out, and hands it out.
-    fn withdraw(&mut self, at: usize) -> Rc<Row>
+    pub(crate) fn withdraw(&mut self, at: usize) -> Rc<Row>
         requires { at < length self.old }
         ensures old { slice_get self.old at ≡ Some result.value }
         ensures new { self.new ≡ remove self.old at }
