@@ -5,3 +5,7 @@ pub mod MovedPlaces
 pub mod PlainBytes
 pub mod SolidTexts
 pub mod PrintedRows
+mod Mentions
+mod Entries
+mod Positions
+mod Verdicts
