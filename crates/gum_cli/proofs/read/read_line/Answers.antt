@@ -10,15 +10,15 @@ returns-in_default-clause-line c =
 pub returns-then-eq-clause-line : goal.returns-then-eq-clause-line
 returns-then-eq-clause-line c =
     c.read_query.ensures
-    ∙ sym (read_query_line c.args.line.now c.written_part-text.result.now c.written_part-text.ensures _ _ c.in-Some.ensures.word c.if-eq.true c.eq.ensures)
+    ∙ sym (read_query_line c.args.line.now c.written_part-text.result.now c.written_part-text.ensures _ _ c.in-Some.ensures.word (sym c.eq.ensures ∙ c.if-eq.true))
 
 pub returns-then-eq-clause-regular : goal.returns-then-eq-clause-regular
-returns-then-eq-clause-regular c = query_regular_at _ _ _ c.read_query.ensures
+returns-then-eq-clause-regular c = query_regular_at _ (length c.written_part-text.result.now) (words_from c.written_part-text.result.now (c.in-Some.place + length c.in-Some.word.now)) c.read_query.ensures
 
 pub returns-then-is_other_command-clause-line : goal.returns-then-is_other_command-clause-line
 returns-then-is_other_command-clause-line c =
-    sym (read_other_line c.args.line.now c.written_part-text.result.now c.written_part-text.ensures _ _ c.in-Some.ensures.word ? ?)
+    sym (read_other_line c.args.line.now c.written_part-text.result.now c.written_part-text.ensures _ _ c.in-Some.ensures.word (sym c.eq.ensures ∙ c.if-eq.false) (sym c.is_other_command.ensures ∙ c.if-is_other_command.true))
 
 pub returns-clause-line : goal.returns-clause-line
 returns-clause-line c =
-    row_line_at c.args.line.now c.written_part-text.result.now c.written_part-text.ensures _ _ c.in-Some.ensures.word ? ? c.read_addition.result c.read_addition.ensures.line
+    row_line_at c.args.line.now c.written_part-text.result.now c.written_part-text.ensures _ _ c.in-Some.ensures.word (sym c.eq.ensures ∙ c.if-eq.false) (sym c.is_other_command.ensures ∙ c.if-is_other_command.false) c.read_addition.result c.read_addition.ensures.line
