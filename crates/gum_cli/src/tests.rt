@@ -116,21 +116,47 @@ fn answers_scripts_byte_by_byte(rt: HostRuntime) -> Result<(), Fail> {
     assert_replies! { rt;
         b"" => b"",
         FIRST => FIRST_REPLIES,
-        b"given X 5 std 1\n\nvalue X" => b"ok\nvalue X 5 5\n",
+        b"given X 5 std 1\n\n# ohm\nvalue X" => b"ok\nvalue X 5 5\n",
         b"given X 5 std 1\ngiven X 6 std 1\nlet X = Y\nvalue X\n"
             => b"ok\nrefused duplicate X\nrefused duplicate X\nvalue X 5 5\n",
         b"let Y = 1 + X + Z\nvalue Y\n" => b"refused unknown X\nrefused no_such_result Y\n",
-        b"value  X\nvalue X\r\n\x00\xff\n" => b"refused not_built\nrefused not_built\nrefused not_built\n",
     }
     Ok(())
 }
 
 #[test]
-fn answers_sums_at_the_limit(rt: HostRuntime) -> Result<(), Fail> {
+fn answers_formulas(rt: HostRuntime) -> Result<(), Fail> {
+    assert_replies! { rt;
+        b"let T = 1/3\nvalue T\n" => b"ok\nvalue T 0.333333333333333333 0.333333333333333334\n",
+        b"let P = (-2)^3\nvalue P\nlet Q = 10^9 * 10^9\nvalue Q\nlet N = 2^0\n"
+            => b"ok\nvalue P -8 -8\nok\nfault overflow Q\nrefused bad_power 11\n",
+        b"given X 5 std 1\nlet A = X*2\nlet B = X*3\nlet C = B - A - X\nvalue C\n"
+            => b"ok\nok\nok\nok\nvalue C 0 0\n",
+    }
+    Ok(())
+}
+
+#[test]
+fn answers_faults(rt: HostRuntime) -> Result<(), Fail> {
     assert_replies! { rt;
         b"let T = 999999999999999999 + 1\nvalue T\nlet U = 999999999999999998 + 1\nvalue U\n"
             => b"ok\nfault overflow T\nok\nvalue U 999999999999999999 999999999999999999\n",
         b"let T = 999999999999999999 + 1\nlet U = T + 1\nvalue U\n" => b"ok\nok\nfault overflow T\n",
+        b"let U = 1e-36 / 2\nvalue U\nlet W = 1/U\nlet V = 1 + W\nvalue V\n"
+            => b"ok\nvalue U 0 0.000000000000000000000000000000000001\nok\nok\nfault zero_divisor W\n",
+    }
+    Ok(())
+}
+
+#[test]
+fn refuses_lines(rt: HostRuntime) -> Result<(), Fail> {
+    assert_replies! { rt;
+        b"given X 1234567890123456789 exact\n" => b"refused number_range 9\n",
+        b"let Y = sin(1)\nlet Y = 2 + 3x\n" => b"refused unknown_function 9\nrefused syntax 14\n",
+        b"value  X\nvalue X\r\n\x00\xff\n" => b"refused no_such_result X\nrefused syntax 7\nrefused syntax 1\n",
+        b"given X 5. std 1\ngiven X 5 std -1\ngiven X\n" => b"refused not_number 9\nrefused negative\nrefused syntax 8\n",
+        b"undo\nvalue T.V\ngiven X 5 rect 1\nvalue\nvalue X Y\n"
+            => b"refused not_built\nrefused not_built\nrefused not_built\nrefused syntax 6\nrefused syntax 9\n",
     }
     Ok(())
 }
