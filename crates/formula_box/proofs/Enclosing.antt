@@ -1,18 +1,18 @@
 -- The span of a formula encloses its value, which is defined.
-use Rattle.std.specs.Prelude.{◌≡◌, ℕ, zero, suc, ◌<◌, ℤ, pos, negsuc, Bool, true, false, not, ◌&&◌, List, [], ◌∷◌, Option, None, Some, Result, Ok, Err, IfOk, refl}
+use Rattle.std.specs.Prelude.{◌≡◌, ℕ, zero, suc, ℤ, pos, negsuc, Bool, true, false, List, [], ◌∷◌, Option, None, Some, Result, Ok, Err, IfOk, refl}
 use Rattle.std.proofs.Common.{sym, ◌∙◌, ap, subst, arith}
 use Rattle.std.proofs.lemmas.Bool.{true≢false}
-use Rattle.exact_fraction.specs.Number.{ℚ, of_ℤ, ◌*ℚ◌, ◌/ℚ◌, inv_ℚ, is_zero_ℚ}
+use Rattle.exact_fraction.specs.Number.{ℚ, of_ℤ, ◌*ℚ◌, inv_ℚ, is_zero_ℚ}
 use Rattle.exact_fraction.specs.NumberLaws.{≤ℚ_refl, *ℚ_comm}
 use Rattle.exact_fraction.proofs.Quotients.{is_zero_ℚ-≡, ≡-is_zero_ℚ}
-use Rattle.exact_fraction.proofs.Ring.{ring, Var, Whole, ◌:+◌, ◌:*◌, x0, x1}
+use Rattle.exact_fraction.proofs.Ring.{ring, Whole, ◌:*◌, x0}
 use Rattle.exact_law.specs.Sums.{power, whole_power}
 use Rattle.exact_law.specs.Model.{value, is_defined, has_power}
 use Rattle.decimal18.specs.Bound.{Bound, value_of}
 use Rattle.decimal18.proofs.Values.{value-whole}
 use Rattle.fixed_interval.specs.Interval.{Interval, Encloses, point_span, sum_span}
-use Rattle.fixed_interval.specs.Rules.{one_bound, difference_span, product_span, negative_span, quotient, holds_zero}
-use Rattle.fixed_interval.specs.Powers.{power_ℚ, power_ℤ, power_span, as_answer, inverted, power as span_power}
+use Rattle.fixed_interval.specs.Rules.{one_bound, difference_span, product_span, quotient, holds_zero}
+use Rattle.fixed_interval.specs.Powers.{power_ℚ, power_span, as_answer, inverted, power as span_power}
 use Rattle.fixed_interval.specs.declared.faults.ArithFault.{ArithFault}
 use Rattle.fixed_interval.proofs.Enclosures.{sum_span_encloses}
 use Rattle.fixed_interval.proofs.Inclusions.{difference_span_encloses, product_span_encloses, quotient_encloses, quotient_by_zero, not_zero}

@@ -1,13 +1,12 @@
 -- The value and the derivative of a part of a formula, from those of its operands.
-use Rattle.std.specs.Prelude.{◌≡◌, ℕ, zero, ℤ, Bool, ◌||◌, List, Option, Some, None, Result, Ok, Err, refl}
+use Rattle.std.specs.Prelude.{◌≡◌, ℕ, ℤ, ◌||◌, List, Option, Some, None, Ok, Err, refl}
 use Rattle.std.proofs.Common.{sym, ◌∙◌, ap, ap₂}
 use Rattle.fixed_interval.specs.Interval.{Interval}
-use Rattle.fixed_interval.specs.Rules.{negative_span}
 use Rattle.fixed_interval.specs.Powers.{power, then_span}
 use Rattle.formula_ast.specs.Trees.{Tree, Number, Variable, Opposite, Joined, Raised}
 use Rattle.formula_ast.specs.declared.token.Sign.{Sign}
 use Rattle.formula_box.specs.Values.{Answer, then_with, arithmetic, used, use_behind, joined_span, span_from, span_of, in_range}
-use Rattle.formula_box.specs.Slopes.{occurs, there, where_used, joined_slope, power_slope, slope_of, partial_of}
+use Rattle.formula_box.specs.Slopes.{there, where_used, joined_slope, power_slope, partial_of}
 use Rattle.formula_box.specs.Parts.{IsPartOf}
 use Rattle.formula_box.specs.declared.fault.EvalFault.{EvalFault}
 use Rattle.formula_box.specs.declared.fault.EvalFault.TheVariants.{Arith}

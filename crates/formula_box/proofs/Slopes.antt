@@ -1,15 +1,15 @@
 -- The span of a derivative encloses the derivative.
 use Rattle.std.specs.Prelude.{◌≡◌, ℕ, zero, suc, ◌-◌, ◌<◌, ℤ, pos, negsuc, Bool, true, false, ◌||◌, cond, List, [], ◌∷◌, bytes_eq, Option, None, Some, IfSome, Result, Ok, Err, IfOk, refl}
-use Rattle.std.proofs.Common.{sym, ◌∙◌, ap, subst, arith}
+use Rattle.std.proofs.Common.{sym, ◌∙◌, subst, arith}
 use Rattle.exact_fraction.specs.Number.{ℚ, of_ℤ, ◌+ℚ◌, ◌*ℚ◌, ◌/ℚ◌, neg_ℚ, inv_ℚ}
-use Rattle.exact_fraction.proofs.Ring.{ring, Var, Whole, Minus as Opposite_of, ◌:+◌, ◌:-◌, ◌:*◌, x0, x1, x2, x3}
+use Rattle.exact_fraction.proofs.Ring.{ring, Whole, Minus as Opposite_of, ◌:+◌, ◌:-◌, ◌:*◌, x0, x1}
 use Rattle.exact_law.specs.Sums.{power, whole_power}
 use Rattle.exact_law.specs.Model.{value, slope, unit, power_slope as exact_power_slope}
-use Rattle.decimal18.specs.Bound.{Bound, scaled, value_of}
+use Rattle.decimal18.specs.Bound.{scaled}
 use Rattle.decimal18.proofs.Values.{value-whole}
 use Rattle.fixed_interval.specs.Interval.{Interval, Encloses, point_span, sum_span}
-use Rattle.fixed_interval.specs.Rules.{zero_bound, one_bound, difference_span, product_span, negative_span, quotient}
-use Rattle.fixed_interval.specs.Powers.{power_ℚ, power_span, then_span}
+use Rattle.fixed_interval.specs.Rules.{one_bound, difference_span, product_span, negative_span, quotient}
+use Rattle.fixed_interval.specs.Powers.{power_span, then_span}
 use Rattle.fixed_interval.specs.declared.faults.ArithFault.{ArithFault}
 use Rattle.fixed_interval.proofs.Enclosures.{sum_span_encloses}
 use Rattle.fixed_interval.proofs.Inclusions.{difference_span_encloses, product_span_encloses, quotient_encloses}
@@ -21,7 +21,7 @@ use Rattle.formula_ast.specs.declared.token.Sign.TheVariants.{Plus, Minus, Times
 use Rattle.formula_box.specs.Values.{Answer, span_of, then_with, in_range}
 use Rattle.formula_box.specs.Slopes.{zero_span, occurs, both, divided, quotient_there, joined_slope, rising_factor, falling_factor, power_slope, there, where_used, slope_of, partial_of}
 use Rattle.formula_box.specs.Exact.{expression_of, AreEnclosed, HasValueWithin, derivative}
-use Rattle.formula_box.proofs.Enclosing.{point_encloses, one_encloses, power_same, from_holds, formula_encloses}
+use Rattle.formula_box.proofs.Enclosing.{point_encloses, one_encloses, power_same, from_holds}
 
 -- a span that is there encloses q
 abbrev pub Holds : Option Interval → ℚ → Type 0

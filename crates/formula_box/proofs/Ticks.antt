@@ -1,9 +1,9 @@
 -- How many steps the powers of a formula take.
-use Rattle.std.specs.Prelude.{◌≡◌, ℕ, zero, suc, ◌+◌, ◌-◌, ◌≤◌, ◌<◌, ℤ, pos, negsuc, ◌≤ℤ◌, ◌<ℤ◌, unsigned_abs, refl}
-use Rattle.std.proofs.Common.{arith, rules, sym, ◌∙◌, ap}
+use Rattle.std.specs.Prelude.{◌≡◌, ℕ, zero, suc, ◌+◌, ◌-◌, ◌≤◌, ℤ, pos, negsuc, ◌<ℤ◌, unsigned_abs, refl}
+use Rattle.std.proofs.Common.{arith, ◌∙◌, ap}
 use Rattle.std.proofs.lemmas.Int.{ints}
 use Rattle.fixed_interval.specs.Powers.{power_steps, steps_of_power}
-use Rattle.formula_ast.specs.Trees.{Tree, Raised, IsExponent, nodes}
+use Rattle.formula_ast.specs.Trees.{Tree, Raised, IsExponent}
 use Rattle.formula_box.specs.Costs.{partial_cost}
 
 -- the powers by up to 9, one by one

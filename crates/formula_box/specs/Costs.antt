@@ -1,5 +1,5 @@
 -- How many spans the evaluation of a formula makes at most.
-use Rattle.std.specs.Prelude.{ℕ, suc, ◌+◌, ◌*◌}
+use Rattle.std.specs.Prelude.{ℕ, ◌+◌, ◌*◌}
 use Rattle.fixed_interval.specs.Powers.{steps_of_power}
 use Rattle.formula_ast.specs.Trees.{Tree, Number, Variable, Opposite, Joined, Raised, nodes}
 

@@ -1,5 +1,5 @@
 -- What one pass through a formula finds of each part: its value, and its derivative by a name.
-use Rattle.std.specs.Prelude.{◌≡◌, ℕ, List, Option, Some, None, Result, Ok, Err}
+use Rattle.std.specs.Prelude.{◌≡◌, ℕ, List, Option, Result, Ok, Err}
 use Rattle.fixed_interval.specs.Interval.{Interval}
 use Rattle.formula_ast.specs.Trees.{Tree}
 use Rattle.formula_box.specs.Values.{span_from}

@@ -1,6 +1,6 @@
 -- The span of a formula's partial derivative by a name (JCGM 100:2008, 5.1.3). Where the name does not
 -- occur in a part of the formula it is the point 0 there, and no operation is made for it.
-use Rattle.std.specs.Prelude.{ℕ, zero, suc, ◌-◌, ℤ, pos, negsuc, Bool, true, false, ◌||◌, cond, List, bytes_eq, Option, None, Some, Result, Ok, Err}
+use Rattle.std.specs.Prelude.{ℕ, zero, suc, ◌-◌, ℤ, pos, negsuc, Bool, false, ◌||◌, cond, List, bytes_eq, Option, None, Some, Result, Ok, Err}
 use Rattle.decimal18.specs.Bound.{scaled}
 use Rattle.fixed_interval.specs.Interval.{Interval, point_span, sum_span}
 use Rattle.fixed_interval.specs.Rules.{zero_bound, one_bound, difference_span, product_span, negative_span, quotient}
@@ -10,7 +10,6 @@ use Rattle.formula_ast.specs.Trees.{Tree, Number, Variable, Opposite, Joined, Ra
 use Rattle.formula_ast.specs.declared.token.Sign.{Sign}
 use Rattle.formula_ast.specs.declared.token.Sign.TheVariants.{Plus, Minus, Times, Over}
 use Rattle.formula_box.specs.Values.{Answer, then_with, in_range, span_of}
-use Rattle.formula_box.specs.declared.fault.EvalFault.{EvalFault}
 
 abbrev pub zero_span : Interval
 zero_span = point_span zero_bound

@@ -1,6 +1,6 @@
 -- The span of a formula's value, where some names have spans: operands first, the left one before the
 -- right one, and the first fault in this order decides.
-use Rattle.std.specs.Prelude.{ℕ, zero, suc, ◌+◌, ◌-◌, ◌^◌, min, ℤ, List, Option, None, Some, Result, Ok, Err}
+use Rattle.std.specs.Prelude.{ℕ, ◌+◌, ◌-◌, ◌^◌, min, List, Option, None, Some, Result, Ok, Err}
 use Rattle.fixed_interval.specs.Interval.{Interval, point_span, sum_span}
 use Rattle.fixed_interval.specs.Rules.{difference_span, product_span, negative_span, quotient}
 use Rattle.fixed_interval.specs.Powers.{power}

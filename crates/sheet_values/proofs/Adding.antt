@@ -1,13 +1,13 @@
 -- What is kept of the evaluations, with one quantity more.
-use Rattle.std.specs.Prelude.{◌≡◌, ℕ, Bool, true, false, not, if◌then◌else◌, List, [], ◌∷◌, ◌++◌, find, is_some, bytes_eq, Option, Some, None, Result, Ok, Err, OnOk, refl}
+use Rattle.std.specs.Prelude.{◌≡◌, ℕ, true, false, not, if◌then◌else◌, List, [], ◌∷◌, ◌++◌, find, is_some, bytes_eq, Some, None, Result, Ok, Err, OnOk, refl}
 use Rattle.std.proofs.Common.{sym, ◌∙◌, ap}
 use mathlib.Core.Path.{fun_ext}
 use Rattle.decimal18.specs.Bound.{Bound}
 use Rattle.fixed_interval.specs.Interval.{point_span}
 use Rattle.formula_ast.specs.Trees.{Tree, uses, names_of}
-use Rattle.sheet_values.specs.Quantities.{Body, Input, Function, Quantity, is_there, first_unknown}
+use Rattle.sheet_values.specs.Quantities.{Input, Function, Quantity, is_there, first_unknown}
 use Rattle.sheet_values.specs.Evaluations.{evaluation_of_body, evaluation_of_formula, evaluation_of}
-use Rattle.sheet_values.specs.Cells.{Cells, kept, UsesOnly, IsStanding, Keeps, with_input, with_formula}
+use Rattle.sheet_values.specs.Cells.{Cells, kept, UsesOnly, Keeps, with_input, with_formula}
 use Rattle.sheet_values.specs.declared.evaluation.Evaluation.{Evaluation}
 use Rattle.sheet_values.specs.declared.evaluation.Evaluation.TheVariants.{Enclosed}
 use Rattle.sheet_values.proofs.Names.{find-distinct, names_known}

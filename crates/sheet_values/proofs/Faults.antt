@@ -12,7 +12,6 @@ use Rattle.formula_ast.specs.Trees.{Tree, Number, Variable, Opposite, Joined, Ra
 use Rattle.formula_ast.specs.declared.token.Sign.{Sign}
 use Rattle.formula_ast.specs.declared.token.Sign.TheVariants.{Plus, Minus, Times, Over}
 use Rattle.formula_box.specs.Values.{Answer, then_with, in_range, arithmetic, used, use_behind, joined_span, span_from, span_of}
-use Rattle.formula_box.specs.declared.fault.EvalFault.{EvalFault}
 use Rattle.formula_box.specs.declared.fault.EvalFault.TheVariants.{Arith, NoValue}
 use Rattle.sheet_values.specs.Evaluations.{Found, span_in, is_fault, fault_at, first_fault, settled, evaluation_of_formula}
 use Rattle.sheet_values.specs.declared.evaluation.Evaluation.{Evaluation}

@@ -1,9 +1,8 @@
 -- The span of a quantity encloses the value of its expanded formula.
-use Rattle.std.specs.Prelude.{◌≡◌, ℕ, zero, suc, Bool, true, false, if◌then◌else◌, List, [], ◌∷◌, length, map, bytes_eq, Option, Some, None, Result, Ok, Err, refl}
+use Rattle.std.specs.Prelude.{◌≡◌, ℕ, zero, suc, Bool, true, false, if◌then◌else◌, List, [], ◌∷◌, length, bytes_eq, Option, Some, None, Ok, Err, refl}
 use Rattle.std.proofs.Common.{sym, ◌∙◌, ap, subst}
 use Rattle.std.proofs.lemmas.Option.{same_Some}
-use Rattle.exact_fraction.specs.Number.{ℚ}
-use Rattle.exact_law.specs.Model.{Expression, Key, Row, Body as ModelBody, Input as ModelInput, Formula as ModelFormula, value, is_defined, replaced, replaced_body, expansion, expanded, estimate, estimate_in, exact_value, has_value, body_of as model_body_of}
+use Rattle.exact_law.specs.Model.{Expression, Key, Body as ModelBody, Input as ModelInput, value, is_defined, replaced, replaced_body, expansion, expanded, estimate, estimate_in, exact_value, has_value, body_of as model_body_of}
 use Rattle.exact_law.proofs.Chain.{value-replaced, is_defined-replaced}
 use Rattle.decimal18.specs.Bound.{Bound, value_of}
 use Rattle.fixed_interval.specs.Interval.{Interval, Encloses, point_span}
@@ -11,11 +10,11 @@ use Rattle.formula_ast.specs.Trees.{Tree, HasExponents, uses}
 use Rattle.std.specs.Option.{option_or}
 use Rattle.formula_box.specs.Values.{Answer, span_of}
 use Rattle.formula_box.specs.declared.fault.EvalFault.TheVariants.{Arith, NoValue}
-use Rattle.formula_box.specs.Exact.{expression_of, AreEnclosed, HasValueWithin}
+use Rattle.formula_box.specs.Exact.{expression_of, AreEnclosed}
 use Rattle.formula_box.proofs.Enclosing.{point_encloses, formula_encloses}
 use Rattle.sheet_values.specs.Quantities.{Body, Input, Function, Quantity, body_of}
-use Rattle.sheet_values.specs.Evaluations.{Found, span_in, is_fault, fault_at, first_fault, settled, evaluation_of_formula, evaluation_of_body, evaluation_through, evaluation_of}
-use Rattle.sheet_values.specs.Model.{model_body, model_row, model_of, HasValueIn, BodyHasExponents, AllHaveExponents}
+use Rattle.sheet_values.specs.Evaluations.{Found, span_in, is_fault, first_fault, settled, evaluation_of_formula, evaluation_of_body, evaluation_through, evaluation_of}
+use Rattle.sheet_values.specs.Model.{model_body, model_of, HasValueIn, BodyHasExponents, AllHaveExponents}
 use Rattle.sheet_values.specs.declared.evaluation.Evaluation.{Evaluation}
 use Rattle.sheet_values.specs.declared.evaluation.Evaluation.TheVariants.{Enclosed, Fault}
 

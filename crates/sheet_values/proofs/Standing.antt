@@ -8,8 +8,7 @@ use Rattle.std.proofs.lemmas.Slice.Eq.{bytes_eq-Decides}
 use Rattle.sheet_values.specs.Quantities.{Body, Input, Function, Quantity, body_of, is_there}
 use Rattle.sheet_values.specs.Evaluations.{Found, evaluation_of_body, evaluation_through, evaluation_of}
 use Rattle.sheet_values.specs.Cells.{UsesOnly, IsStanding}
-use Rattle.sheet_values.specs.declared.evaluation.Evaluation.{Evaluation}
-use Rattle.sheet_values.proofs.Names.{AllNames, AllNames-map, names_known, none_unknown}
+use Rattle.sheet_values.proofs.Names.{AllNames-map, names_known, none_unknown}
 use Rattle.sheet_values.proofs.Faults.{evaluation_same, is_evaluated}
 
 -- ---- the bodies with one quantity more

@@ -1,5 +1,5 @@
 -- The evaluation of a quantity: the span of its value, or the fault that stands in its place.
-use Rattle.std.specs.Prelude.{ℕ, zero, suc, Bool, true, false, if◌then◌else◌, List, [], ◌∷◌, length, Option, Some, None, Result, Ok, Err}
+use Rattle.std.specs.Prelude.{ℕ, zero, suc, Bool, true, false, if◌then◌else◌, List, [], ◌∷◌, length, Option, Some, None, Ok, Err}
 use Rattle.std.specs.Option.{option_or}
 use Rattle.fixed_interval.specs.Interval.{Interval, point_span}
 use Rattle.formula_ast.specs.Trees.{Tree, uses}

@@ -1,7 +1,6 @@
-use Rattle.std.proofs.Common.{arith, rules, sym, Some}
+use Rattle.std.proofs.Common.{arith, Some}
 use Rattle.std.proofs.lemmas.Int.{ints}
 use Rattle.formula_ast.specs.Views.{tree_of}
-use Rattle.formula_ast.specs.Trees.{nodes}
 use Rattle.formula_ast.specs.declared.token.Sign.TheVariants.{Plus, Minus, Times, Over}
 use Rattle.formula_box.proofs.Ticks.{power_ticks}
 use Rattle.formula_box.proofs.Parting.{joined_part, power_part}

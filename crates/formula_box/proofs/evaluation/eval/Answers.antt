@@ -1,4 +1,3 @@
-use Rattle.std.specs.Prelude.{◌≡◌}
 use Rattle.formula_box.specs.Values.{span_of}
 use Rattle.formula_box.proofs.evaluation.eval.Goals as goal
 

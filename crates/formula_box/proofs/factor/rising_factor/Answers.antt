@@ -1,4 +1,4 @@
-use Rattle.std.proofs.Common.{arith, rules}
+use Rattle.std.proofs.Common.{arith}
 use Rattle.std.proofs.lemmas.Int.{ints}
 use Rattle.formula_box.proofs.Ticks.{rising_ticks}
 use Rattle.formula_box.proofs.factor.rising_factor.Goals as goal

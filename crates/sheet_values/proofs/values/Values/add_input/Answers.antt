@@ -1,4 +1,4 @@
-use Rattle.std.proofs.Common.{sym, ap}
+use Rattle.std.proofs.Common.{ap}
 use Rattle.sheet_values.specs.declared.evaluation.Evaluation.TheVariants.{Enclosed}
 use Rattle.sheet_values.proofs.Adding.{on_ok, keeps-input}
 use Rattle.sheet_values.proofs.values.Values.add_input.Goals as goal
