@@ -4,3 +4,4 @@ pub mod MovedPlaces
 pub mod PlainBytes
 pub mod SolidTexts
 pub mod PrintedRows
+pub mod ReadRows
