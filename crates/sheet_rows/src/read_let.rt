@@ -10,7 +10,7 @@ ghost use Rattle.sheet_rows.specs.Rows.{row_of};
 ghost use Rattle.sheet_rows.specs.Regular.{IsRegular};
 ghost use Rattle.sheet_rows.specs.Reading.{is_in_name, front_name, past_blanks, name_at, begins_equals, equals_at, formula_fault, formula_at, let_of};
 ghost use Rattle.sheet_rows.specs.Answers.{GivesTree, GivesRow};
-ghost use Rattle.sheet_rows.specs.Places.{place_of};
+ghost use Rattle.sheet_rows.specs.FaultPlaces.{place_of};
 
 use crate::fault::RowFault;
 use crate::row::Row;
