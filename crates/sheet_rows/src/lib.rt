@@ -3,17 +3,17 @@
 
 mod fault;
 mod print;
+mod print_laws;
 mod read;
 mod read_given;
 mod read_let;
 #[cfg(test)]
 mod read_tests;
-mod reading_laws;
 mod row;
 
 pub use decimal18::OutOfMemory;
 pub use fault::RowFault;
 pub use print::print_row;
+pub use print_laws::printed_rows_are_read_again;
 pub use read::read_row;
-pub use reading_laws::printed_rows_are_read_again;
 pub use row::Row;
