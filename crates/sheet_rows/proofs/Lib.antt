@@ -13,3 +13,4 @@ mod Conditions
 mod Adding
 mod Setting
 mod Removing
+pub mod ReadRows
