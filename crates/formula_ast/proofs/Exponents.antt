@@ -1,5 +1,5 @@
 -- What holds of a formula that was read.
-use Rattle.std.specs.Prelude.{◌≡◌, ℕ, zero, suc, ◌≤◌, ℤ, pos, negsuc, unsigned_abs, List, Result, Ok, Err, IfOk, refl}
+use Rattle.std.specs.Prelude.{◌≡◌, ℕ, zero, suc, ℤ, pos, negsuc, unsigned_abs, List, Result, Ok, Err, IfOk}
 use Rattle.std.proofs.Common.{arith}
 use Rattle.std.proofs.lemmas.Int.{ints}
 use Rattle.formula_ast.specs.Trees.{Tree, Number, Variable, Opposite, Joined, Raised, IsExponent, HasExponents}

@@ -1,11 +1,10 @@
 -- The reading of a text from its front: what holds in front of each token, and behind the last.
-use Rattle.std.proofs.Common.{◌≡◌, ℕ, zero, suc, ◌+◌, ◌-◌, ◌<◌, ◌≤◌, ◌==◌, ◌&&◌, Bool, true, false, cond, nat_le, List, [], ◌∷◌, length, drop, refl, sym, ◌∙◌, ap, subst, arith, Option, None, Some, Result, Ok, Err}
-use Rattle.std.proofs.lemmas.Bool.{eqb-true}
+use Rattle.std.proofs.Common.{◌≡◌, ℕ, zero, suc, ◌+◌, ◌-◌, ◌<◌, ◌≤◌, ◌==◌, ◌&&◌, Bool, true, false, cond, nat_le, List, [], ◌∷◌, length, drop, refl, sym, ◌∙◌, ap, subst, arith, Option, None, Some, Result, Err}
 use Rattle.std.proofs.lemmas.Bool.Decides.{nat_tests}
 use Rattle.formula_ast.specs.Trees.{Tree}
 use Rattle.formula_ast.specs.Tokens.{tokens, len_of, kind_of}
-use Rattle.formula_ast.specs.Machine.{Stage, AtOperand, AtAtom, AtEnd, AtExponent, trees, step, finish, first_stage}
-use Rattle.formula_ast.specs.Reading.{most_nodes, or_else, word_fault, is_too_deep, is_node, node_count, refusal, unless_refused, goes_on, syntax_place, opens_next, at_end, reading, reading_of}
+use Rattle.formula_ast.specs.Machine.{Stage, AtOperand, AtAtom, AtEnd, AtExponent, trees, step, first_stage}
+use Rattle.formula_ast.specs.Reading.{most_nodes, or_else, word_fault, is_too_deep, is_node, node_count, refusal, unless_refused, goes_on, syntax_place, opens_next, reading, reading_of}
 use Rattle.formula_ast.specs.Fronts.{IsTight, IsPassed, IsFront}
 use Rattle.formula_ast.specs.Answers.{Fails}
 use Rattle.formula_ast.proofs.FrontTokens.{tokens_skip}
@@ -145,12 +144,6 @@ read_first text rest p =
       few = omega arith;
       read = ap (reading first_stage 0 0) (sym (p.same 0 ∙ ap (tokens rest 0) zero_on));
     }
-
--- behind the last token
-pub read_last : (text rest : List ℕ) (s : Stage Tree) (nodes end : ℕ) (f : Tree) → IsAt text rest s nodes end →
-    length rest ≡ 0 → Some f ≡ finish trees s → reading_of text ≡ Ok f
-read_last text [] s nodes end f a none e = sym a.read ∙ ap (λ read. at_end read end) (sym e)
-read_last text (byte ∷ bytes) s nodes end f a none e = absurd (omega arith)
 
 -- a fault that was told
 pub fails_by : (f : FormulaFault) (r : Result Tree FormulaFault) → r ≡ Err f → Fails f r
