@@ -1,0 +1,4 @@
+pub mod Quantities
+pub mod Evaluations
+pub mod Cells
+pub mod Model
