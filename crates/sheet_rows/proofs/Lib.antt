@@ -5,6 +5,7 @@ pub mod MovedPlaces
 pub mod PlainBytes
 pub mod SolidTexts
 pub mod PrintedRows
+pub mod ReadRows
 mod Mentions
 mod Entries
 mod Positions
@@ -13,4 +14,3 @@ mod Conditions
 mod Adding
 mod Setting
 mod Removing
-pub mod ReadRows
