@@ -6,3 +6,4 @@ mod Conditions
 mod Adding
 mod Setting
 mod Removing
+pub mod Keeping

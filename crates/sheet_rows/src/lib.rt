@@ -6,6 +6,8 @@ mod edits;
 mod laws;
 mod row;
 mod sheet;
+#[cfg(test)]
+mod tests;
 mod users;
 
 pub use decimal18::OutOfMemory;
