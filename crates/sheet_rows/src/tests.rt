@@ -133,12 +133,10 @@ fn edit(
     requires { IsWellFormed (sheet_of sheet.old) }
     ensures { IsWellFormed (sheet_of sheet.new) }
 {
-    let edited = row(alloc, name, body)?;
-    let name = name_of(name)?;
     match kind {
-        Kind::Add => Ok(add(sheet, edited)),
-        Kind::Set => Ok(set(sheet, edited)),
-        Kind::Remove => Ok(remove(sheet, &name)),
+        Kind::Add => Ok(add(sheet, row(alloc, name, body)?)),
+        Kind::Set => Ok(set(sheet, row(alloc, name, body)?)),
+        Kind::Remove => Ok(remove(sheet, &name_of(name)?)),
     }
 }
 
@@ -148,14 +146,30 @@ fn empty(alloc: Global) -> Sheet
     Sheet::new(alloc)
 }
 
+// Whether the fault is the outcome.
+fn is_outcome(fault: Option<EditFault>, outcome: Outcome) -> Result<bool, &'static str> {
+    Ok(fault == fault_of(outcome)?)
+}
+
+fn run_cases(sheet: &mut Sheet, alloc: Global) -> Result<(), &'static str>
+    requires { IsWellFormed (sheet_of sheet.old) }
+{
+    for (kind, name, body, outcome, rows) in CASES {
+        let fault = edit(sheet, alloc, kind, name, body)?;
+        if !is_outcome(fault, outcome)? {
+            return Err("another outcome");
+        }
+        if sheet.len() != rows {
+            return Err("another number of rows");
+        }
+    }
+    Ok(())
+}
+
 #[test]
 fn refusals_leave_the_sheet(rt: HostRuntime) -> Result<(), Fail> {
     let mut sheet = empty(rt.alloc());
-    for (kind, name, body, outcome, rows) in CASES {
-        let fault = edit(&mut sheet, rt.alloc(), kind, name, body)?;
-        assert_eq!(rt; fault, fault_of(outcome)?);
-        assert_eq!(rt; sheet.len(), rows);
-    }
+    run_cases(&mut sheet, rt.alloc())?;
     Ok(())
 }
 
@@ -163,75 +177,72 @@ fn place(sheet: &Sheet, name: &str) -> Result<Option<usize>, &'static str> {
     Ok(sheet.place_of(&name_of(name)?))
 }
 
-#[test]
-fn rows_keep_their_places(rt: HostRuntime) -> Result<(), Fail> {
-    let alloc = rt.alloc();
-    let mut sheet = empty(alloc);
-    assert_eq!(rt; edit(&mut sheet, alloc, Kind::Add, "X", "")?, None);
-    assert_eq!(rt; edit(&mut sheet, alloc, Kind::Add, "Y", "X * 2")?, None);
-    assert_eq!(rt; edit(&mut sheet, alloc, Kind::Add, "Z", "")?, None);
-    let Ok(copy) = sheet.copy() else {
-        return Err("no memory")?;
-    };
-    assert_eq!(rt; edit(&mut sheet, alloc, Kind::Set, "Y", "X / 2")?, None);
-    assert_eq!(rt; place(&sheet, "Y")?, Some(1));
-    assert_eq!(rt; edit(&mut sheet, alloc, Kind::Remove, "Y", "")?, None);
-    assert_eq!(rt; place(&sheet, "Z")?, Some(1));
-    assert_eq!(rt; place(&sheet, "Y")?, None);
-    assert_eq!(rt; place(&copy, "Z")?, Some(2));
-    assert_eq!(rt; copy.rows().len(), 3);
-    assert_eq!(rt; sheet.row_at(2).is_none(), true);
-    let Some(last) = sheet.row_at(1) else {
-        return Err("no row")?;
-    };
-    assert_eq!(rt; *last.name(), name_of("Z")?);
-    Ok(())
-}
-
-#[test]
-fn what_an_edit_hands_out(rt: HostRuntime) -> Result<(), Fail> {
-    let alloc = rt.alloc();
-    let mut sheet = empty(alloc);
-    assert_eq!(rt; edit(&mut sheet, alloc, Kind::Add, "X", "")?, None);
-    assert_eq!(rt; edit(&mut sheet, alloc, Kind::Add, "Y", "X * X")?, None);
-    let Ok(old) = sheet.try_set(given("Y")?) else {
-        return Err("refused")?;
-    };
-    let Ok(names) = old.used_names(alloc) else {
-        return Err("no memory")?;
-    };
-    assert_eq!(rt; names.as_slice().len(), 1);
-    let Ok((at, out)) = sheet.try_remove(&name_of("X")?) else {
-        return Err("refused")?;
-    };
-    assert_eq!(rt; at, 0);
-    assert_eq!(rt; *out.name(), name_of("X")?);
-    Ok(())
-}
-
 // A name of a letter and four digits.
 fn numbered(number: u16) -> [u8; 5] {
-    let digit = |place: u16| b'0' + (number / place % 10) as u8;
-    [b'N', digit(1000), digit(100), digit(10), digit(1)]
+    [
+        b'N',
+        b'0' + (number / 1000 % 10) as u8,
+        b'0' + (number / 100 % 10) as u8,
+        b'0' + (number / 10 % 10) as u8,
+        b'0' + (number % 10) as u8,
+    ]
+}
+
+fn numbered_row(number: u16) -> Result<Row, &'static str> {
+    Ok(Row::Given {
+        name: Name::new(&numbered(number)).ok_or("not a name")?,
+        estimate: Dec::new(1, 0).ok_or("not a bound")?,
+        shape: Shape::Exact,
+        dof: Dof::Inf,
+    })
+}
+
+fn fill(sheet: &mut Sheet) -> Result<(), &'static str> {
+    for number in 0..4096u16 {
+        let added = sheet.try_add(numbered_row(number)?);
+        if added.is_err() {
+            return Err("refused");
+        }
+    }
+    Ok(())
 }
 
 #[test]
 fn a_sheet_has_a_last_row(rt: HostRuntime) -> Result<(), Fail> {
     let mut sheet = Sheet::new(rt.alloc());
-    for number in 0..4096u16 {
-        let name = Name::new(&numbered(number)).ok_or("not a name")?;
-        let estimate = Dec::new(1, 0).ok_or("not a bound")?;
-        let row = Row::Given {
-            name,
-            estimate,
-            shape: Shape::Exact,
-            dof: Dof::Inf,
-        };
-        assert_eq!(rt; sheet.try_add(row), Ok(()));
-    }
-    assert_eq!(rt; sheet.try_add(given("M")?), Err(EditFault::RowsFull));
+    fill(&mut sheet)?;
     assert_eq!(rt; sheet.try_add(given("N0000")?), Err(EditFault::RowsFull));
     assert_eq!(rt; sheet.len(), 4096);
     assert_eq!(rt; place(&sheet, "N4095")?, Some(4095));
+    Ok(())
+}
+
+// The place and the name that are handed out with a removed row, and the rows of a copy made before.
+fn removal(sheet: &mut Sheet, name: &Name) -> Result<(usize, Name, usize), &'static str> {
+    let Ok(copy) = sheet.copy() else {
+        return Err("no memory");
+    };
+    let rows = copy.rows().len();
+    let Ok((at, row)) = sheet.try_remove(name) else {
+        return Err("refused");
+    };
+    Ok((at, *row.name(), rows))
+}
+
+fn name_at(sheet: &Sheet, at: usize) -> Option<Name> {
+    match sheet.row_at(at) {
+        Some(row) => Some(*row.name()),
+        None => None,
+    }
+}
+
+#[test]
+fn a_removed_row_is_handed_out(rt: HostRuntime) -> Result<(), Fail> {
+    let mut sheet = empty(rt.alloc());
+    let (x, y) = (name_of("X")?, name_of("Y")?);
+    let added = (add(&mut sheet, given("X")?), add(&mut sheet, given("Y")?));
+    assert_eq!(rt; added, (None, None));
+    assert_eq!(rt; removal(&mut sheet, &x), Ok((0, x, 2)));
+    assert_eq!(rt; (name_at(&sheet, 0), name_at(&sheet, 1)), (Some(y), None));
     Ok(())
 }
