@@ -1,5 +1,5 @@
 -- A number below 0 has a negative coefficient.
-use Rattle.std.proofs.Common.{◌≡◌, ℕ, suc, Bool, true, false, not, ℤ, pos, negsuc, refl, sym, ap, arith}
+use Rattle.std.proofs.Common.{◌≡◌, ℕ, not, ℤ, pos, negsuc, sym, ap, arith}
 use Rattle.std.proofs.lemmas.Bool.{le-leb}
 use Rattle.std.proofs.Math.IntN.{*ℤ-one, one}
 use lib.Signed.{le_z}
