@@ -1,14 +1,14 @@
 -- A row that is added leaves a well-formed sheet well formed, and is refused only where it does not.
-use Rattle.std.proofs.Common.{◌≡◌, ◌≤◌, ℕ, suc, ◌+◌, Bool, true, false, ◌||◌, ◌&&◌, cond, not, nat_le, List, [], ◌∷◌, ◌++◌, length, None, Ok, Err, refl, sym, ap, ◌∙◌, subst, arith, append_assoc, true≢false}
-use Rattle.std.specs.Prelude.{bytes_eq, find}
-use Rattle.std.specs.List.{list_any, list_all}
+use Rattle.std.proofs.Common.{◌≡◌, ℕ, Bool, true, false, ◌||◌, ◌&&◌, cond, not, nat_le, List, [], ◌∷◌, ◌++◌, length, Ok, Err, refl, sym, ap, ◌∙◌, subst, arith, append_assoc}
+use Rattle.std.specs.Prelude.{bytes_eq}
+use Rattle.std.specs.List.{list_all}
 use Rattle.std.proofs.lemmas.List.{length-append, append-nil}
 use Rattle.std.proofs.lemmas.List.Folds.{list_any-append, list_all-append}
 use Rattle.sheet_rows.specs.Rows.{Row, name_of, used_names}
-use Rattle.sheet_rows.specs.declared.edit_fault.EditFault.TheVariants.{RowsFull, Duplicate, Unknown, NotEarlier, InUse}
-use Rattle.sheet_rows.specs.Sheets.{Verdict, IsWellFormed, IsAccepted, is_named, has_row, has_value, has_quantity, are_known, are_named_once, are_earlier, row_limit, added, rows_before, unless, unless_uses_fail, first_unknown, first_not_earlier, verdict_add}
-use Rattle.sheet_rows.proofs.Conditions.{err_ok, ok_same, unless_ok, cond_ok, and_left, and_right, and_both, or_left, or_right, not_true, none_all, all_none, all_more, other_way}
-use Rattle.sheet_rows.proofs.Verdicts.{below, up_to, added_has, before_added, quantity_is_row}
+use Rattle.sheet_rows.specs.declared.edit_fault.EditFault.TheVariants.{RowsFull, Duplicate, Unknown, NotEarlier}
+use Rattle.sheet_rows.specs.Sheets.{IsWellFormed, IsAccepted, is_named, has_row, has_value, has_quantity, are_known, are_named_once, are_earlier, row_limit, added, rows_before, unless, unless_uses_fail, first_unknown, first_not_earlier, verdict_add}
+use Rattle.sheet_rows.proofs.Conditions.{ok_same, unless_ok, cond_ok, and_left, and_right, and_both, or_left, or_right, not_true, none_all, all_none, all_more, other_way}
+use Rattle.sheet_rows.proofs.Verdicts.{below, up_to, added_has, before_added}
 
 -- ---- names
 once_added : (sheet : List Row) (row : Row) → are_named_once sheet ≡ true → has_row sheet (name_of row) ≡ false → are_named_once (added sheet row) ≡ true

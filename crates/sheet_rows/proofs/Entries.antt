@@ -1,5 +1,5 @@
 -- The entries of the code's map as the rows of a sheet.
-use Rattle.std.proofs.Common.{◌≡◌, ℕ, zero, suc, ◌+◌, ◌<◌, Bool, cond, not, nat_lt, List, [], ◌∷◌, ◌++◌, map, length, take, drop, Option, None, Some, refl, sym, ap, ◌∙◌, arith}
+use Rattle.std.proofs.Common.{◌≡◌, ℕ, zero, suc, ◌+◌, Bool, cond, not, nat_lt, List, [], ◌∷◌, ◌++◌, map, take, drop, None, Some, refl, sym, ap, ◌∙◌}
 use Rattle.std.specs.Prelude.{position, bytes_eq, remove, slice_get, slice_set as set, unwrap_or}
 use Rattle.std.specs.List.{position_or_len, AllZip}
 use Rattle.std.specs.Map.{keys_of, values_of}
@@ -9,9 +9,9 @@ use Rattle.std.specs.Option.{option_map}
 use Rattle.indexmap.specs.IndexMap.{insert_entry, set_value_at}
 use Rattle.indexmap.proofs.MapLemmas.{Missing-position, insert_entry-absent}
 use Rattle.sheet_rows.specs.declared.row.Row.{Row as CodeRow}
-use Rattle.sheet_rows.specs.Rows.{Row, row_of, name_of}
+use Rattle.sheet_rows.specs.Rows.{row_of}
 use Rattle.sheet_rows.specs.Sheets.{is_named}
-use Rattle.sheet_rows.specs.Places.{code_name, sheet_of, place_of}
+use Rattle.sheet_rows.specs.Places.{code_name}
 
 same_some : {A : Type 0} {x y : A} → Some x ≡ Some y → x ≡ y
 same_some {A} {x} e = ap (λ r. unwrap_or r x) e

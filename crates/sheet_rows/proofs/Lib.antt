@@ -14,3 +14,4 @@ mod Conditions
 mod Adding
 mod Setting
 mod Removing
+pub mod Keeping

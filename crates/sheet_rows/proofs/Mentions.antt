@@ -1,5 +1,5 @@
 -- Names among those that two parts of a formula use.
-use Rattle.std.proofs.Common.{◌≡◌, ◌||◌, ℕ, Bool, List, ◌++◌}
+use Rattle.std.proofs.Common.{◌≡◌, ◌||◌, ℕ, List, ◌++◌}
 use Rattle.std.specs.Prelude.{bytes_eq}
 use Rattle.std.specs.List.{list_any}
 use Rattle.std.proofs.lemmas.List.Folds.{list_any-append}

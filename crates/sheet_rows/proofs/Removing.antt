@@ -1,16 +1,16 @@
 -- A row that is taken out leaves a well-formed sheet well formed, and is refused only where it does not.
-use Rattle.std.proofs.Common.{◌≡◌, ◌≤◌, ℕ, suc, Bool, true, false, ◌||◌, ◌&&◌, cond, not, List, [], ◌∷◌, ◌++◌, length, Option, None, Some, Ok, Err, is_some, refl, sym, ap, ◌∙◌, subst, arith, true≢false}
+use Rattle.std.proofs.Common.{◌≡◌, ◌≤◌, ℕ, suc, Bool, true, false, ◌||◌, ◌&&◌, cond, not, List, [], ◌∷◌, ◌++◌, length, Option, None, Some, Ok, is_some, refl, sym, ap, ◌∙◌, subst, arith, true≢false}
 use Rattle.std.specs.Prelude.{bytes_eq, find}
 use Rattle.std.specs.Option.{option_map}
 use Rattle.std.specs.List.{list_any, list_all}
 use Rattle.std.proofs.lemmas.List.Folds.{list_any-append}
 use Rattle.sheet_rows.specs.Rows.{Row, name_of, used_names}
-use Rattle.sheet_rows.specs.declared.edit_fault.EditFault.TheVariants.{Unknown, InUse}
-use Rattle.sheet_rows.specs.Sheets.{Verdict, IsWellFormed, IsAccepted, is_named, has_row, has_value, has_quantity, are_known, are_named_once, are_earlier, row_limit, removed, unless, verdict_remove}
+use Rattle.sheet_rows.specs.declared.edit_fault.EditFault.TheVariants.{InUse}
+use Rattle.sheet_rows.specs.Sheets.{IsWellFormed, IsAccepted, is_named, has_row, has_value, has_quantity, are_known, are_named_once, are_earlier, removed, unless, verdict_remove}
 use Rattle.sheet_rows.specs.Places.{place_of}
 use Rattle.sheet_rows.proofs.Positions.{position-any}
-use Rattle.sheet_rows.proofs.Conditions.{err_ok, ok_same, unless_ok, and_left, and_right, and_both, or_left, or_right, not_true, none_of, all_more, other_way}
-use Rattle.sheet_rows.proofs.Verdicts.{same_name, named_itself, or_false, quantity_is_row, missing_find, there_at, remove_by_users, remove_unknown}
+use Rattle.sheet_rows.proofs.Conditions.{err_ok, ok_same, unless_ok, and_left, and_right, and_both, or_left, or_right, not_true, none_of, other_way}
+use Rattle.sheet_rows.proofs.Verdicts.{same_name, or_false, quantity_is_row, missing_find, there_at, remove_by_users, remove_unknown}
 
 module _ (n : List ℕ) where
   -- the row uses the name

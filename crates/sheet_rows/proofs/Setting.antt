@@ -1,15 +1,15 @@
 -- A row that is set leaves a well-formed sheet well formed, and is refused only where it does not.
-use Rattle.std.proofs.Common.{◌≡◌, ◌≤◌, ℕ, suc, Bool, true, false, ◌||◌, ◌&&◌, cond, not, List, [], ◌∷◌, ◌++◌, length, None, Ok, Err, refl, sym, ap, ◌∙◌, subst, arith, append_assoc, true≢false}
+use Rattle.std.proofs.Common.{◌≡◌, ℕ, suc, Bool, true, false, ◌||◌, ◌&&◌, cond, not, List, [], ◌∷◌, ◌++◌, length, Ok, Err, refl, sym, ap, ◌∙◌, subst, arith, append_assoc, true≢false}
 use Rattle.std.specs.Prelude.{bytes_eq, find}
 use Rattle.std.specs.Option.{option_map}
-use Rattle.std.specs.List.{list_any, list_all}
+use Rattle.std.specs.List.{list_all}
 use Rattle.std.proofs.lemmas.List.{append-nil}
 use Rattle.std.proofs.lemmas.List.Folds.{list_any-append}
 use Rattle.sheet_rows.specs.Rows.{Row, name_of, used_names}
 use Rattle.sheet_rows.specs.declared.edit_fault.EditFault.TheVariants.{Unknown, NotEarlier, InUse}
-use Rattle.sheet_rows.specs.Sheets.{Verdict, IsWellFormed, IsAccepted, is_named, has_row, has_value, has_quantity, are_known, are_named_once, are_earlier, row_limit, set_row, rows_before, unless, first_unknown, first_not_earlier, is_left_without, verdict_on_set, verdict_set}
-use Rattle.sheet_rows.proofs.Conditions.{err_ok, ok_same, unless_ok, cond_err, and_left, and_right, and_both, none_all, all_none, all_more}
-use Rattle.sheet_rows.proofs.Verdicts.{same_name, named_itself, or_false, list_all_agree, set_has, set_quantity, none_left}
+use Rattle.sheet_rows.specs.Sheets.{Verdict, IsWellFormed, IsAccepted, is_named, has_row, has_value, has_quantity, are_known, are_named_once, are_earlier, set_row, rows_before, unless, first_unknown, first_not_earlier, is_left_without, verdict_on_set, verdict_set}
+use Rattle.sheet_rows.proofs.Conditions.{ok_same, unless_ok, cond_err, and_left, and_right, and_both, none_all, all_none, all_more}
+use Rattle.sheet_rows.proofs.Verdicts.{same_name, named_itself, list_all_agree, set_has, set_quantity, none_left}
 
 -- rows before which the same names stand
 pub earlier_same : (a b rs : List Row) → ((n : List ℕ) → has_quantity a n ≡ has_quantity b n) → are_earlier a rs ≡ are_earlier b rs

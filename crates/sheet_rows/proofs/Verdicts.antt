@@ -1,5 +1,5 @@
 -- The verdicts, by the places of names.
-use Rattle.std.proofs.Common.{◌≡◌, ℕ, zero, suc, Bool, true, false, ◌||◌, ◌&&◌, cond, not, nat_le, List, [], ◌∷◌, ◌++◌, length, map, take, drop, Option, None, Some, Ok, Err, is_some, refl, sym, ap, ◌∙◌, subst, true≢false, ◌<◌, arith, inl, inr}
+use Rattle.std.proofs.Common.{◌≡◌, ℕ, zero, suc, Bool, true, false, ◌||◌, ◌&&◌, cond, not, nat_le, List, [], ◌∷◌, length, map, take, Option, None, Some, Ok, Err, is_some, refl, sym, ap, ◌∙◌, true≢false, ◌<◌, arith, inl, inr}
 use Rattle.std.proofs.lemmas.Bool.Decides.{leb_tells}
 use Rattle.std.specs.Prelude.{position, find, bytes_eq, remove, slice_get, slice_set as set}
 use Rattle.std.specs.List.{list_any, list_all}
@@ -8,10 +8,9 @@ use Rattle.std.proofs.lemmas.Slice.Eq.{bytes_eq-Decides}
 use Rattle.std.proofs.lemmas.List.{take_all, length-map}
 use Rattle.std.proofs.lemmas.List.Folds.{list_any-append}
 use Rattle.sheet_rows.specs.declared.row.Row.{Row as CodeRow}
-use Rattle.sheet_rows.specs.declared.edit_fault.EditFault.{EditFault}
 use Rattle.sheet_rows.specs.declared.edit_fault.EditFault.TheVariants.{RowsFull, Duplicate, Unknown, NotEarlier, InUse}
 use Rattle.sheet_rows.specs.Rows.{Row, row_of, name_of, used_names, names_used}
-use Rattle.sheet_rows.specs.Sheets.{Verdict, is_named, has_row, has_value, has_quantity, are_known, row_limit, added, set_row, removed, rows_before, unless, unless_uses_fail, first_unknown, first_not_earlier, verdict_add, verdict_set, verdict_on_set, is_left_without, is_user_of, verdict_remove, verdict_on_removal}
+use Rattle.sheet_rows.specs.Sheets.{Verdict, is_named, has_row, has_quantity, are_known, row_limit, added, set_row, removed, rows_before, unless, unless_uses_fail, verdict_add, verdict_set, verdict_on_set, is_left_without, is_user_of, verdict_remove, verdict_on_removal}
 use Rattle.sheet_rows.specs.Places.{code_name, sheet_of, place_of, is_known_with, stands_before}
 use Rattle.sheet_rows.proofs.Positions.{position-any, before-any, IsFirstAt, first_at, within, find_agree, find_distinct}
 

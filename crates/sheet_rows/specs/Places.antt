@@ -1,7 +1,5 @@
 -- What the code's sheet is, and how it finds names by their places.
-use Rattle.std.specs.Prelude.{◌≡◌, ℕ, Bool, false, ◌||◌, not, nat_lt, is_some, List, map, find, position, Option, None, Some, Result, Ok, Err, bytes_eq}
-use Rattle.std.specs.Map.{keys_of}
-use Rattle.std.specs.declared.rc.Rc.{Rc}
+use Rattle.std.specs.Prelude.{◌≡◌, ℕ, Bool, false, ◌||◌, nat_lt, is_some, List, map, position, Option, None, Some, Result, Ok, Err, bytes_eq}
 use Rattle.sheet_rows.specs.Rows.{Row, row_of, name_of}
 use Rattle.sheet_rows.specs.Sheets.{Verdict, is_named}
 use Rattle.sheet_rows.specs.declared.row.Row.{Row as CodeRow}

@@ -14,6 +14,8 @@ mod read_let;
 mod read_tests;
 mod row;
 mod sheet;
+#[cfg(test)]
+mod tests;
 mod users;
 
 pub use decimal18::OutOfMemory;

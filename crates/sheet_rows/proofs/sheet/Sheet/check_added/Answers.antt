@@ -1,4 +1,4 @@
-use Rattle.std.proofs.Common.{◌≡◌, true, false, nat_le, is_some, sym, ap, ◌∙◌, rules, length}
+use Rattle.std.proofs.Common.{◌≡◌, true, false, nat_le, is_some, sym, ap, ◌∙◌, length}
 use Rattle.std.proofs.lemmas.List.{length-map}
 use Rattle.sheet_rows.specs.Rows.{row_of, name_of}
 use Rattle.sheet_rows.specs.Sheets.{row_limit, added}

@@ -1,4 +1,4 @@
-use Rattle.std.proofs.Common.{◌∙◌, rules}
+use Rattle.std.proofs.Common.{rules}
 use Rattle.sheet_rows.proofs.Entries.{copied_rows, copied_names}
 use Rattle.sheet_rows.proofs.sheet.Sheet.copy.Goals as goal
 

@@ -1,4 +1,3 @@
-use Rattle.std.proofs.Common.{◌∙◌, ap, map}
 use Rattle.sheet_rows.proofs.Entries.{values}
 use Rattle.sheet_rows.proofs.sheet.Sheet.rows.Goals as goal
 

@@ -1,6 +1,6 @@
-use Rattle.std.proofs.Common.{◌≡◌, Ok, Some, ◌∙◌, ap, sym}
+use Rattle.std.proofs.Common.{Ok, ◌∙◌, ap, sym}
 use Rattle.sheet_rows.specs.Sheets.{is_named}
-use Rattle.sheet_rows.specs.Places.{sheet_of, place_of}
+use Rattle.sheet_rows.specs.Places.{sheet_of}
 use Rattle.sheet_rows.proofs.Positions.{first_at}
 use Rattle.sheet_rows.proofs.Verdicts.{remove_unknown, removed_rows}
 use Rattle.sheet_rows.proofs.sheet.Sheet.try_remove.Goals as goal
