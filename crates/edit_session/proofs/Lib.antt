@@ -1,0 +1,4 @@
+pub mod Lists
+pub mod EditsKeep
+pub mod Soundness
+pub mod Steps
