@@ -1,0 +1,4 @@
+mod Mentions
+mod Entries
+mod Positions
+mod Verdicts

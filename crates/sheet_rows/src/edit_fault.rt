@@ -1,0 +1,30 @@
+use decimal18::OutOfMemory;
+use formula_ast::Name;
+
+/// Why a sheet is not edited.
+#[derive(Clone, Copy, Debug, PartialEq, Eq)]
+pub enum EditFault {
+    /// The sheet has 4,096 rows.
+    RowsFull,
+    /// A row has the name of the row to add.
+    Duplicate(Name),
+    /// No row has this name, which is to be set, removed or used.
+    Unknown(Name),
+    /// The row of this used name does not stand before the row that uses it.
+    NotEarlier(Name),
+    /// The row of this name uses what would no longer be there.
+    InUse(Name),
+    /// There was no memory for the edit.
+    OutOfMemory,
+}
+
+impl From<OutOfMemory> for EditFault {
+    ghost use Rattle.std.specs.Prelude.{◌≡◌};
+    ghost use Rattle.sheet_rows.specs.declared.edit_fault.EditFault.{EditFault};
+
+    ghost from_gives = { λ _ fault. fault ≡ EditFault.OutOfMemory };
+
+    fn from(_: OutOfMemory) -> EditFault {
+        EditFault::OutOfMemory
+    }
+}
