@@ -1,4 +1,5 @@
 ghost use Rattle.std.specs.Prelude.{◌≡◌, OnErr};
+ghost use Rattle.sheet_rows.specs.Sheets.{IsWellFormed};
 ghost use Rattle.sheet_rows.specs.Places.{sheet_of, IsVerdict};
 ghost use Rattle.sheet_rows.specs.Rows.{row_of};
 ghost use Rattle.answers.specs.Commands.{edit_of, Set as SetRow};
@@ -13,6 +14,7 @@ use sheet_rows::{EditFault, Row, Sheet};
 ///
 /// The refusal that the sheet gives; the sheet stays as it was.
 pub(crate) fn apply(sheet: &mut Sheet, edit: Edit) -> Result<(), EditFault>
+    requires { IsWellFormed (sheet_of sheet.old) }
     ensures verdict { IsVerdict result (sheet_of sheet.new) (verdict (sheet_of sheet.old) (edit_of edit)) }
     ensures err { OnErr result (sheet.new ≡ sheet.old) }
 {
@@ -27,6 +29,7 @@ pub(crate) fn apply(sheet: &mut Sheet, edit: Edit) -> Result<(), EditFault>
 }
 
 fn set(sheet: &mut Sheet, row: Row) -> Result<(), EditFault>
+    requires { IsWellFormed (sheet_of sheet.old) }
     ensures verdict { IsVerdict result (sheet_of sheet.new) (verdict (sheet_of sheet.old) (SetRow (row_of row))) }
     ensures err { OnErr result (sheet.new ≡ sheet.old) }
 {
