@@ -16,13 +16,13 @@ use Rattle.sheet_rows.specs.Places.{code_name, sheet_of, place_of, is_known_with
 use Rattle.sheet_rows.proofs.Positions.{position-any, before-any, IsFirstAt, first_at, within, find_agree, find_distinct}
 
 -- ---- names
-same_name : (n m : List ℕ) → bytes_eq n m ≡ true → n ≡ m
+pub same_name : (n m : List ℕ) → bytes_eq n m ≡ true → n ≡ m
 same_name n m h = (bytes_eq-Decides n m).0 h
 
 pub named_itself : (n : List ℕ) → bytes_eq n n ≡ true
 named_itself n = (bytes_eq-Decides n n).1 refl
 
-or_false : (b : Bool) → (b || false) ≡ b
+pub or_false : (b : Bool) → (b || false) ≡ b
 or_false true = refl
 or_false false = refl
 
@@ -118,7 +118,7 @@ set_stands : (sheet : List Row) (row : Row) (at : ℕ) → IsFirstAt (is_named (
 set_stands sheet row at h n = ap (λ rows. has_quantity rows n) (before_set sheet row at h) ∙ stands_in sheet at n
 
 -- ---- no other row is left without a name that it uses
-list_all_agree : (p q : List ℕ → Bool) → ((n : List ℕ) → p n ≡ q n) → (ns : List (List ℕ)) → list_all p ns ≡ list_all q ns
+pub list_all_agree : (p q : List ℕ → Bool) → ((n : List ℕ) → p n ≡ q n) → (ns : List (List ℕ)) → list_all p ns ≡ list_all q ns
 list_all_agree p q h [] = refl
 list_all_agree p q h (n ∷ ns) = λ j. h n j && list_all_agree p q h ns j
 
@@ -155,7 +155,7 @@ none_left_by : (sheet : List Row) (row r : Row) (rs rs' : List Row) (t : Bool) �
 none_left_by sheet row r rs rs' true k h g = ap (λ b. cond b (Some row) (find (is_left_without (set_row row sheet) row) rs)) (itself_not_left sheet row) ∙ h
 none_left_by sheet row r rs rs' false k h g = ap (λ b. cond b (Some r) (find (is_left_without (set_row row sheet) row) rs')) (known_still sheet row r k) ∙ g
 
-none_left : (sheet : List Row) (row : Row) (rest : List Row) → list_all (are_known sheet) rest ≡ true
+pub none_left : (sheet : List Row) (row : Row) (rest : List Row) → list_all (are_known sheet) rest ≡ true
     → find (is_left_without (set_row row sheet) row) (set_row row rest) ≡ None
 none_left sheet row [] h = refl
 none_left sheet row (r ∷ rs) h =
@@ -199,7 +199,7 @@ remove_by_users sheet n at place =
     let found = found_at sheet n at (first_at (is_named n) sheet at place) in
     ap (verdict_on_removal sheet n) found.1 ∙ removal_by_users sheet n found.0 found.2
 
-missing_find : {X : Type 0} (p : X → Bool) (xs : List X) → list_any p xs ≡ false → find p xs ≡ None
+pub missing_find : {X : Type 0} (p : X → Bool) (xs : List X) → list_any p xs ≡ false → find p xs ≡ None
 missing_find p [] h = refl
 missing_find p (x ∷ xs) h = ap (λ b. cond b (Some x) (find p xs)) (or_left _ _ h) ∙ missing_find p xs (or_right (p x) _ h)
 

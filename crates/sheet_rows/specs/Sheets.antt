@@ -46,6 +46,11 @@ pub record IsWellFormed (sheet : List Row) : Type 0 where
   pub known : list_all (are_known sheet) sheet ≡ true
   pub earlier : are_earlier [] sheet ≡ true
 
+-- the edited sheet is this one, and well formed
+pub record IsAccepted (edited sheet : List Row) : Type 0 where
+  pub is : edited ≡ sheet
+  pub well_formed : IsWellFormed edited
+
 -- ---- edited sheets
 -- the row is put last
 abbrev pub added : List Row → Row → List Row
