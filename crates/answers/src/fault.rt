@@ -1,5 +1,6 @@
 use decimal18::OutOfMemory;
 use formula_ast::Name;
+use sheet_rows::RowFault;
 
 /// Why there is no step back or forward.
 #[derive(Clone, Copy, Debug, PartialEq, Eq)]
@@ -39,6 +40,8 @@ pub enum AskFault {
 pub enum LineFault {
     /// The word or token at this place, counted from 1, breaks a rule.
     Syntax(usize),
+    /// The line gives no row, for this reason.
+    Row(RowFault),
     /// The line has more bytes than a line may have.
     LongLine,
     /// The command is known, and is not there yet.
@@ -77,5 +80,16 @@ impl From<OutOfMemory> for AskFault {
 
     fn from(_: OutOfMemory) -> AskFault {
         AskFault::OutOfMemory
+    }
+}
+
+impl From<OutOfMemory> for LineFault {
+    ghost use Rattle.std.specs.Prelude.{◌≡◌};
+    ghost use Rattle.answers.specs.declared.fault.LineFault.{LineFault};
+
+    ghost from_gives = { λ _ fault. fault ≡ LineFault.OutOfMemory };
+
+    fn from(_: OutOfMemory) -> LineFault {
+        LineFault::OutOfMemory
     }
 }
