@@ -1,6 +1,6 @@
 //! A text is cut into its lines as its pieces come.
 
-ghost use Rattle.std.specs.Prelude.{◌≡◌, ◌+◌, ◌<◌, [], ◌∷◌, ◌++◌, length, take, drop, IfSome, IfNone, IfOk, OnOk, OnErr};
+ghost use Rattle.std.specs.Prelude.{◌≡◌, ◌+◌, ◌<◌, [], ◌∷◌, ◌++◌, List, ℕ, length, take, drop, IfSome, IfNone, IfOk, OnOk, OnErr};
 ghost use Rattle.script_lines.specs.Items.{parts_of, items_of, whole_items_of};
 
 use crate::item::{Item, ended_item, last_item};
@@ -29,7 +29,8 @@ impl Model for Splitter {
 
 /// The number of bytes in front of the first line feed, and `None` where there is none.
 fn line_len(text: &[u8]) -> Option<usize>
-    ensures parts { IfSome result (λ len. parts_of text.now ≡ take len text.now ∷ parts_of (drop (len + 1) text.now)) }
+    ensures more { IfSome result (λ len. (rest : List ℕ)
+        → parts_of (text.now ++ rest) ≡ take len text.now ∷ parts_of (drop (len + 1) text.now ++ rest)) }
     ensures within { IfSome result (λ len. len < length text.now) }
     ensures none { IfNone result (parts_of text.now ≡ text.now ∷ []) }
 {
@@ -92,6 +93,13 @@ impl Splitter {
     pub fn take(&mut self) -> Result<Option<Item>, OutOfMemory>
         ensures whole { IfOk result (λ taken. IfSome taken (λ item. whole_items_of self.old ≡ item ∷ whole_items_of self.new)) }
         ensures items { IfOk result (λ taken. IfSome taken (λ item. items_of self.old ≡ item ∷ items_of self.new)) }
+
+        // The same holds with whatever comes behind.
+        ensures whole_more { IfOk result (λ taken. IfSome taken (λ item. (rest : List ℕ)
+            → whole_items_of (self.old ++ rest) ≡ item ∷ whole_items_of (self.new ++ rest))) }
+        ensures items_more { IfOk result (λ taken. IfSome taken (λ item. (rest : List ℕ)
+            → items_of (self.old ++ rest) ≡ item ∷ items_of (self.new ++ rest))) }
+
         ensures none { IfOk result (λ taken. IfNone taken (whole_items_of self.old ≡ [])) }
         ensures kept { IfOk result (λ taken. IfNone taken (self.new ≡ self.old)) }
         ensures err { OnErr result (self.new ≡ self.old) }
