@@ -1,0 +1,160 @@
+-- Rows have codes, by which a proof tells them apart: a formula is written behind its parts, without parentheses.
+use Rattle.std.specs.Prelude.{◌≡◌, ℕ, zero, suc, ℤ, List, [], ◌∷◌, ◌++◌, Option, Some, None, refl}
+use Rattle.std.specs.Coded.{Coded, code_by, coded×, coded⊎, coded_list, coded_option, coded_ℕ, coded_ℤ}
+use Rattle.std.proofs.Common.{◌⊎◌, inl, inr, sym, ◌∙◌, ap}
+use Rattle.std.proofs.lemmas.List.{append_assoc, append-nil}
+use Rattle.decimal18.specs.Bound.{Bound, scaled}
+use Rattle.type_b.specs.declared.shape.Shape.{Shape}
+use Rattle.type_b.specs.declared.shape.Shape.TheVariants.{Exact, Std}
+use Rattle.type_b.specs.declared.shape.Dof.{Dof}
+use Rattle.type_b.specs.declared.shape.Dof.TheVariants.{Inf}
+use Rattle.formula_ast.specs.Trees.{Tree, Number, Variable, Opposite, Joined, Raised}
+use Rattle.formula_ast.specs.declared.token.Sign.{Sign}
+use Rattle.formula_ast.specs.declared.token.Sign.TheVariants.{Plus, Minus, Times, Over}
+use Rattle.sheet_rows.specs.Rows.{Row, Given, Formula}
+
+coded_bound : Coded Bound
+coded_bound = code_by (ℤ × ℕ) (coded× coded_ℤ coded_ℕ) (λ b. (b.coefficient, b.places)) (λ p. scaled p.0 p.1) (λ _. refl)
+
+-- ---- formulas
+-- a step: a number, a name, or what is made of the formulas before it
+data Step : Type 0 where
+  Put : Bound → Step
+  Name : List ℕ → Step
+  Negate : Step
+  Join : Sign → Step
+  Raise : ℤ → Step
+
+number_of : Sign → ℕ
+number_of Plus = 0
+number_of Minus = 1
+number_of Times = 2
+number_of Over = 3
+
+sign_of : ℕ → Sign
+sign_of zero = Plus
+sign_of (suc zero) = Minus
+sign_of (suc (suc zero)) = Times
+sign_of (suc (suc (suc n))) = Over
+
+sign_again : (s : Sign) → sign_of (number_of s) ≡ s
+unfolding number_of sign_of
+sign_again Plus = refl
+sign_again Minus = refl
+sign_again Times = refl
+sign_again Over = refl
+
+abbrev Parts : Type 0
+Parts = Bound ⊎ (List ℕ ⊎ (ℕ ⊎ (Option ℤ)))
+
+parts_of : Step → Parts
+parts_of (Put q) = inl q
+parts_of (Name n) = inr (inl n)
+parts_of (Join s) = inr (inr (inl (number_of s)))
+parts_of (Raise k) = inr (inr (inr (Some k)))
+parts_of Negate = inr (inr (inr None))
+
+step_of : Parts → Step
+step_of (inl q) = Put q
+step_of (inr (inl n)) = Name n
+step_of (inr (inr (inl n))) = Join (sign_of n)
+step_of (inr (inr (inr (Some k)))) = Raise k
+step_of (inr (inr (inr None))) = Negate
+
+step_again : (s : Step) → step_of (parts_of s) ≡ s
+unfolding parts_of step_of
+step_again (Put q) = refl
+step_again (Name n) = refl
+step_again (Join s) = ap Join (sign_again s)
+step_again (Raise k) = refl
+step_again Negate = refl
+
+coded_step : Coded Step
+coded_step =
+    code_by Parts (coded⊎ coded_bound (coded⊎ (coded_list coded_ℕ) (coded⊎ coded_ℕ (coded_option coded_ℤ)))) parts_of step_of step_again
+
+steps_of : Tree → List Step
+steps_of (Number q) = Put q ∷ []
+steps_of (Variable n) = Name n ∷ []
+steps_of (Opposite a) = steps_of a ++ Negate ∷ []
+steps_of (Joined s a b) = steps_of a ++ (steps_of b ++ Join s ∷ [])
+steps_of (Raised a k) = steps_of a ++ Raise k ∷ []
+
+-- the formulas that steps leave, the newest first
+after : List Step → List Tree → List Tree
+after [] made = made
+after (Put q ∷ steps) made = after steps (Number q ∷ made)
+after (Name n ∷ steps) made = after steps (Variable n ∷ made)
+after (Negate ∷ steps) [] = []
+after (Negate ∷ steps) (a ∷ made) = after steps (Opposite a ∷ made)
+after (Raise k ∷ steps) [] = []
+after (Raise k ∷ steps) (a ∷ made) = after steps (Raised a k ∷ made)
+after (Join s ∷ steps) [] = []
+after (Join s ∷ steps) (b ∷ []) = []
+after (Join s ∷ steps) (b ∷ a ∷ made) = after steps (Joined s a b ∷ made)
+
+first_of : List Tree → Tree
+first_of [] = Variable []
+first_of (f ∷ made) = f
+
+tree_after : List Step → Tree
+tree_after steps = first_of (after steps [])
+
+after-steps_of : (f : Tree) (steps : List Step) (made : List Tree) → after (steps_of f ++ steps) made ≡ after steps (f ∷ made)
+unfolding steps_of after
+after-steps_of (Number q) steps made = refl
+after-steps_of (Variable n) steps made = refl
+after-steps_of (Opposite a) steps made =
+    ap (λ xs. after xs made) (append_assoc (steps_of a) (Negate ∷ []) steps) ∙ after-steps_of a (Negate ∷ steps) made
+after-steps_of (Joined s a b) steps made =
+    ap (λ xs. after xs made) (append_assoc (steps_of a) (steps_of b ++ Join s ∷ []) steps)
+    ∙ after-steps_of a ((steps_of b ++ Join s ∷ []) ++ steps) made
+    ∙ ap (λ xs. after xs (a ∷ made)) (append_assoc (steps_of b) (Join s ∷ []) steps)
+    ∙ after-steps_of b (Join s ∷ steps) (a ∷ made)
+after-steps_of (Raised a k) steps made =
+    ap (λ xs. after xs made) (append_assoc (steps_of a) (Raise k ∷ []) steps) ∙ after-steps_of a (Raise k ∷ steps) made
+
+tree_again : (f : Tree) → tree_after (steps_of f) ≡ f
+unfolding tree_after first_of after
+tree_again f =
+    ap (λ steps. first_of (after steps [])) (sym (append-nil (steps_of f)))
+    ∙ ap first_of (after-steps_of f [] [])
+
+coded_tree : Coded Tree
+coded_tree = code_by (List Step) (coded_list coded_step) steps_of tree_after tree_again
+
+-- ---- rows
+deviation_of : Shape → Option Bound
+deviation_of Exact = None
+deviation_of (Std u) = Some u
+
+shape_of : Option Bound → Shape
+shape_of None = Exact
+shape_of (Some u) = Std u
+
+shape_again : (s : Shape) → shape_of (deviation_of s) ≡ s
+unfolding deviation_of shape_of
+shape_again Exact = refl
+shape_again (Std u) = refl
+
+abbrev Fields : Type 0
+Fields = (List ℕ × (Bound × Option Bound)) ⊎ (List ℕ × Tree)
+
+fields_of : Row → Fields
+fields_of (Given name estimate shape Inf) = inl (name, (estimate, deviation_of shape))
+fields_of (Formula name formula) = inr (name, formula)
+
+row_of_fields : Fields → Row
+row_of_fields (inl (name, (estimate, deviation))) = Given name estimate (shape_of deviation) Inf
+row_of_fields (inr (name, formula)) = Formula name formula
+
+row_again : (row : Row) → row_of_fields (fields_of row) ≡ row
+unfolding fields_of row_of_fields
+row_again (Given name estimate shape Inf) = ap (λ s. Given name estimate s Inf) (shape_again shape)
+row_again (Formula name formula) = refl
+
+pub coded_row : Coded Row
+coded_row =
+    code_by Fields
+    (coded⊎ (coded× (coded_list coded_ℕ) (coded× coded_bound (coded_option coded_bound))) (coded× (coded_list coded_ℕ) coded_tree))
+    fields_of row_of_fields row_again

@@ -1,0 +1,13 @@
+//! What is asked of a session, and what it answers: plain types.
+#![tactic(auto)]
+
+mod command;
+mod fault;
+mod reply;
+mod row_list;
+
+pub use command::{Command, Edit, Query};
+pub use decimal18::OutOfMemory;
+pub use fault::{AskFault, HistoryFault, LineFault, MarkFault};
+pub use reply::{Answer, Reply};
+pub use row_list::RowList;

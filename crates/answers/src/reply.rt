@@ -1,0 +1,35 @@
+use crate::fault::{AskFault, HistoryFault, LineFault, MarkFault};
+use crate::row_list::RowList;
+use fixed_interval::{ArithFault, Span};
+use formula_ast::Name;
+use sheet_rows::EditFault;
+
+/// The answer to a query.
+#[derive(Drop, Debug)]
+pub enum Answer {
+    /// The value of the quantity of this name is in this interval, in the quantity's own unit.
+    Value(Name, Span),
+    /// These are the rows, in their order.
+    Dump(RowList),
+    /// The quantity has no interval: this fault arose in the row of this name.
+    ValueFault(ArithFault, Name),
+}
+
+/// The reply to a line.
+#[derive(Drop, Debug)]
+pub enum Reply {
+    /// The command was carried out.
+    Fine,
+    /// The line is no command.
+    Line(LineFault),
+    /// The edit was refused.
+    Edit(EditFault),
+    /// There is no step back or forward.
+    History(HistoryFault),
+    /// The sheet was not kept or not restored.
+    Mark(MarkFault),
+    /// The query has no answer.
+    Ask(AskFault),
+    /// The answer to a query.
+    Said(Answer),
+}

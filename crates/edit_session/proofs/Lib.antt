@@ -1,0 +1,6 @@
+pub mod Lists
+pub mod EditsKeep
+pub mod Soundness
+pub mod Steps
+pub mod Names
+pub mod Walking

@@ -1,0 +1,37 @@
+use Rattle.std.proofs.Common.{◌≡◌, ◌++◌, ◌∷◌, [], true, sym, ◌∙◌, ap, ap₂, subst}
+use Rattle.circular_buffer.specs.Buffer.{buffer, keep_last}
+use Rattle.answers.specs.declared.reply.Reply.TheVariants.{Fine}
+use Rattle.edit_session.specs.Machine.{State, step}
+use Rattle.edit_session.specs.States.{state_of, state_from}
+use Rattle.edit_session.proofs.Soundness.{stepped-sound}
+use Rattle.answers.specs.Commands.{Change, edit_of}
+use Rattle.edit_session.proofs.Steps.{Pushed, edit_step}
+use Rattle.edit_session.proofs.session.Session.edit.Goals as goal
+
+pub apply-requires : goal.apply-requires
+apply-requires c = c.self.invariant.sound.present.well_formed
+
+pushed : (c : goal.After-clear) → Pushed c.push_back.new.self c.self.inside.past.items c.self.inside.present
+pushed c =
+    c.push_back.ensures.items
+    ∙ ap₂ (λ cap sheet. buffer (keep_last cap (c.self.inside.past.items ++ sheet ∷ [])) cap) c.self.invariant.room c.in_ok-before.ensures
+
+after : goal.After-clear → State
+after c = state_from c.apply.new.sheet c.push_back.new.self.items c.clear.new.self.items c.self.inside.marks.entries
+
+stepped : (c : goal.After-clear) → step (state_of c.self.inside) (Change (edit_of c.args.edit)) ≡ (after c, Fine)
+unfolding after
+stepped c =
+    edit_step c.self.inside.present c.apply.new.sheet c.self.inside.past.items c.self.inside.future.items c.clear.new.self.items
+    c.self.inside.marks.entries c.push_back.new.self (edit_of c.args.edit) c.in_ok-apply.ensures.verdict (pushed c) c.clear.ensures.items
+
+pub invariant_of-self-2 : goal.invariant_of-self-2
+unfolding after
+invariant_of-self-2 c = record {
+  room = ap (λ ring. ring.capacity) (pushed c);
+  sound = stepped-sound (state_of c.self.inside) (after c) (Change (edit_of c.args.edit)) Fine c.self.invariant.sound c.requires (stepped c);
+}
+
+pub returns : goal.returns
+unfolding after
+returns c = subst (λ s. step s (Change (edit_of c.args.edit)) ≡ (after c, Fine)) c.self.view_is (stepped c)

@@ -1,0 +1,214 @@
+ghost use Rattle.std.specs.Prelude.{◌≡◌, ◌||◌, IfOk, is_some, nat_lt, length, bytes_eq};
+ghost use Rattle.std.specs.Map.{lookup};
+ghost use Rattle.sheet_rows.specs.Places.{sheet_of};
+ghost use Rattle.answers.specs.Commands.{edit_of, Change, Undo, Redo, Mark, Restore};
+ghost use Rattle.edit_session.specs.Machine.{initial, kept_as, reply_at, mark_limit};
+ghost use Rattle.edit_session.specs.Replies.{reply_to};
+ghost use Rattle.edit_session.specs.Calculable.{EditHasExponents};
+ghost use Rattle.edit_session.specs.Calls.{edit_reply, history_reply, mark_reply, ask_reply, Does, Gives};
+
+use crate::answering::ask_sheet;
+use crate::edits::apply;
+use answers::{Answer, AskFault, Edit, HistoryFault, MarkFault, Query};
+use circular_buffer::HeapCircularBuffer;
+use decimal18::OutOfMemory;
+use fixed_interval::Steps;
+use formula_ast::Name;
+use indexmap::IndexMap;
+use sheet_rows::{EditFault, Sheet};
+use std::alloc::Global;
+use std::marker::Model;
+use std::sync::ledger::Ledger;
+
+/// The most steps back.
+const PAST_LIMIT: usize = 256;
+
+/// The most sheets that are kept under names.
+const MARK_LIMIT: usize = 16;
+
+/// A present sheet, the sheets to which undo and redo lead, and those that are kept under names. The
+/// sheets share their rows.
+#[derive(Drop)]
+pub struct Session {
+    alloc: Global,
+    present: Sheet,
+    // where undo leads, the next one last
+    past: HeapCircularBuffer<Sheet>,
+    // where redo leads, the next one last
+    future: Vec<Sheet>,
+    marks: IndexMap<Name, Sheet>,
+}
+
+impl Model for Session {
+    ghost use Rattle.edit_session.specs.Machine.{State};
+    ghost use Rattle.edit_session.specs.States.{state_of, IsSession, coded_state};
+
+    ghost Value = { State };
+
+    ghost coded = { coded_state };
+
+    ghost view = { state_of };
+
+    ghost invariant = { IsSession };
+}
+
+impl Session {
+    /// A session with an empty sheet and nothing else.
+    ///
+    /// # Errors
+    ///
+    /// [`OutOfMemory`] where there is no memory for the past.
+    pub fn new(alloc: Global) -> Result<Session, OutOfMemory>
+        ensures { IfOk result (λ session. session ≡ initial) }
+    {
+        let past = HeapCircularBuffer::with_capacity(alloc, PAST_LIMIT)?;
+        Ok(Session {
+            alloc,
+            present: Sheet::new(alloc),
+            past,
+            future: Vec::new(alloc),
+            marks: IndexMap::new(alloc),
+        })
+    }
+
+    /// Edits the present sheet. The future is empty afterwards.
+    ///
+    /// # Errors
+    ///
+    /// The refusal that the sheet gives, or [`EditFault::OutOfMemory`]; the session stays as it was.
+    pub fn edit(&mut self, edit: Edit) -> Result<(), EditFault>
+        requires { EditHasExponents (edit_of edit) }
+        ensures { Does self.old (Change (edit_of edit)) self.new (edit_reply result) }
+    {
+        let before = self.present.copy()?;
+        apply(&mut self.present, edit)?;
+        self.past.push_back(before);
+        self.future.clear();
+        Ok(())
+    }
+
+    /// Makes the last sheet of the past the present one.
+    ///
+    /// # Errors
+    ///
+    /// [`HistoryFault::NothingToUndo`] exactly where the past is empty, but for want of memory; the
+    /// session stays as it was.
+    pub fn undo(&mut self) -> Result<(), HistoryFault>
+        ensures { Does self.old Undo self.new (history_reply result) }
+    {
+        self.future.reserve(1)?;
+        let Some(sheet) = self.past.pop_back() else {
+            return Err(HistoryFault::NothingToUndo);
+        };
+        let after = std::mem::replace(&mut self.present, sheet);
+        // There is room for it.
+        self.future.push(after).unwrap();
+        Ok(())
+    }
+
+    /// Takes one undo back.
+    ///
+    /// # Errors
+    ///
+    /// [`HistoryFault::NothingToRedo`] exactly where the future is empty; the session stays as it was.
+    pub fn redo(&mut self) -> Result<(), HistoryFault>
+        ensures { Does self.old Redo self.new (history_reply result) }
+    {
+        let Some(sheet) = self.future.pop() else {
+            return Err(HistoryFault::NothingToRedo);
+        };
+        let before = std::mem::replace(&mut self.present, sheet);
+        self.past.push_back(before);
+        Ok(())
+    }
+
+    /// Keeps the present sheet under a name, in the place of the one that was kept under it.
+    ///
+    /// # Errors
+    ///
+    /// [`MarkFault::MarksFull`] exactly where the name is new and there are 16 marks, but for want of
+    /// memory; the session stays as it was.
+    pub fn mark(&mut self, name: Name) -> Result<(), MarkFault>
+        ensures { Does self.old (Mark name) self.new (mark_reply result) }
+    {
+        if !may_mark(&self.marks, &name) {
+            return Err(MarkFault::MarksFull);
+        }
+        let sheet = self.present.copy()?;
+        match self.marks.insert(name, sheet) {
+            Ok(_) => Ok(()),
+            Err(_) => Err(MarkFault::OutOfMemory),
+        }
+    }
+
+    /// Makes the sheet that is kept under a name the present one, as an edit does.
+    ///
+    /// # Errors
+    ///
+    /// [`MarkFault::NoMark`] exactly where no mark has the name, but for want of memory; the session
+    /// stays as it was.
+    pub fn restore(&mut self, name: &Name) -> Result<(), MarkFault>
+        ensures { Does self.old (Restore name.now) self.new (mark_reply result) }
+    {
+        let Some(kept) = self.marks.get(name) else {
+            return Err(MarkFault::NoMark(*name));
+        };
+        let sheet = kept.copy()?;
+        let before = std::mem::replace(&mut self.present, sheet);
+        self.past.push_back(before);
+        self.future.clear();
+        Ok(())
+    }
+
+    /// Asks the present sheet.
+    ///
+    /// # Errors
+    ///
+    /// [`AskFault::NoSuchResult`] exactly where the query names no quantity, but for want of memory.
+    pub fn ask<L: Ledger>(
+        &self,
+        query: &Query,
+        steps: &mut Steps<L>,
+    ) -> Result<Answer, AskFault>
+        ensures { Gives (ask_reply result) (reply_to self.now.present query.now) }
+    {
+        ask_sheet(self.alloc, &self.present, query, steps)
+    }
+
+    /// Asks the sheet that is kept under a name.
+    ///
+    /// # Errors
+    ///
+    /// [`AskFault::NoMark`] exactly where no mark has the name, and then
+    /// [`AskFault::NoSuchResult`] exactly where the query names no quantity, but for want of memory.
+    pub fn ask_at<L: Ledger>(
+        &self,
+        mark: &Name,
+        query: &Query,
+        steps: &mut Steps<L>,
+    ) -> Result<Answer, AskFault>
+        ensures { Gives (ask_reply result) (reply_at mark.now (kept_as self.now.marks mark.now) query.now) }
+    {
+        let Some(kept) = self.marks.get(mark) else {
+            return Err(AskFault::NoMark(*mark));
+        };
+        ask_sheet(self.alloc, kept, query, steps)
+    }
+
+    /// The present sheet.
+    pub fn sheet(&self) -> &Sheet
+        ensures { sheet_of result.now ≡ self.now.present }
+    {
+        &self.present
+    }
+}
+
+// Whether a sheet may be kept under this name: it is there already, or there is room for a new one.
+fn may_mark(marks: &IndexMap<Name, Sheet>, name: &Name) -> bool
+    ensures { result ≡ (is_some (lookup (bytes_eq name.now) marks.now.entries) || nat_lt (length marks.now.entries) mark_limit) }
+{
+    if marks.contains_key(name) {
+        return true;
+    }
+    marks.len() < MARK_LIMIT
+}

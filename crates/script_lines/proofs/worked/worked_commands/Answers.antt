@@ -1,0 +1,62 @@
+use Rattle.std.proofs.Common.{refl}
+use Rattle.decimal18.specs.Literal.{parsed}
+use Rattle.formula_ast.specs.Reading.{reading_of}
+use Rattle.sheet_rows.specs.Reading.{row_read}
+use Rattle.script_lines.specs.Commands.{line_read}
+use Rattle.script_lines.proofs.worked.worked_commands.Goals as goal
+
+pub returns-clause-empty : goal.returns-clause-empty
+unfolding line_read row_read reading_of parsed
+returns-clause-empty c = refl
+
+pub returns-clause-set : goal.returns-clause-set
+unfolding line_read row_read reading_of parsed
+returns-clause-set c = refl
+
+pub returns-clause-add : goal.returns-clause-add
+unfolding line_read row_read reading_of parsed
+returns-clause-add c = refl
+
+pub returns-clause-blank : goal.returns-clause-blank
+unfolding line_read row_read reading_of parsed
+returns-clause-blank c = refl
+
+pub returns-clause-undo : goal.returns-clause-undo
+unfolding line_read row_read reading_of parsed
+returns-clause-undo c = refl
+
+pub returns-clause-redo : goal.returns-clause-redo
+unfolding line_read row_read reading_of parsed
+returns-clause-redo c = refl
+
+pub returns-clause-mark : goal.returns-clause-mark
+unfolding line_read row_read reading_of parsed
+returns-clause-mark c = refl
+
+pub returns-clause-restore : goal.returns-clause-restore
+unfolding line_read row_read reading_of parsed
+returns-clause-restore c = refl
+
+pub returns-clause-remove : goal.returns-clause-remove
+unfolding line_read row_read reading_of parsed
+returns-clause-remove c = refl
+
+pub returns-clause-value : goal.returns-clause-value
+unfolding line_read row_read reading_of parsed
+returns-clause-value c = refl
+
+pub returns-clause-column : goal.returns-clause-column
+unfolding line_read row_read reading_of parsed
+returns-clause-column c = refl
+
+pub returns-clause-dump : goal.returns-clause-dump
+unfolding line_read row_read reading_of parsed
+returns-clause-dump c = refl
+
+pub returns-clause-at_value : goal.returns-clause-at_value
+unfolding line_read row_read reading_of parsed
+returns-clause-at_value c = refl
+
+pub returns-clause-at_dump : goal.returns-clause-at_dump
+unfolding line_read row_read reading_of parsed
+returns-clause-at_dump c = refl

@@ -1,0 +1,70 @@
+use Rattle.std.proofs.Common.{refl}
+use Rattle.decimal18.specs.Literal.{parsed}
+use Rattle.formula_ast.specs.Reading.{reading_of}
+use Rattle.sheet_rows.specs.Reading.{row_read}
+use Rattle.script_lines.specs.Commands.{line_read}
+use Rattle.script_lines.proofs.worked.worked_refusals.Goals as goal
+
+pub returns-clause-long : goal.returns-clause-long
+unfolding line_read row_read reading_of parsed
+returns-clause-long c = refl
+
+pub returns-clause-returned : goal.returns-clause-returned
+unfolding line_read row_read reading_of parsed
+returns-clause-returned c = refl
+
+pub returns-clause-superfluous : goal.returns-clause-superfluous
+unfolding line_read row_read reading_of parsed
+returns-clause-superfluous c = refl
+
+pub returns-clause-counted : goal.returns-clause-counted
+unfolding line_read row_read reading_of parsed
+returns-clause-counted c = refl
+
+pub returns-clause-missing : goal.returns-clause-missing
+unfolding line_read row_read reading_of parsed
+returns-clause-missing c = refl
+
+pub returns-clause-no_name : goal.returns-clause-no_name
+unfolding line_read row_read reading_of parsed
+returns-clause-no_name c = refl
+
+pub returns-clause-no_query : goal.returns-clause-no_query
+unfolding line_read row_read reading_of parsed
+returns-clause-no_query c = refl
+
+pub returns-clause-no_result : goal.returns-clause-no_result
+unfolding line_read row_read reading_of parsed
+returns-clause-no_result c = refl
+
+pub returns-clause-other_query : goal.returns-clause-other_query
+unfolding line_read row_read reading_of parsed
+returns-clause-other_query c = refl
+
+pub returns-clause-other_result : goal.returns-clause-other_result
+unfolding line_read row_read reading_of parsed
+returns-clause-other_result c = refl
+
+pub returns-clause-no_edit : goal.returns-clause-no_edit
+unfolding line_read row_read reading_of parsed
+returns-clause-no_edit c = refl
+
+pub returns-clause-no_row : goal.returns-clause-no_row
+unfolding line_read row_read reading_of parsed
+returns-clause-no_row c = refl
+
+pub returns-clause-other_word : goal.returns-clause-other_word
+unfolding line_read row_read reading_of parsed
+returns-clause-other_word c = refl
+
+pub returns-clause-column : goal.returns-clause-column
+unfolding line_read row_read reading_of parsed
+returns-clause-column c = refl
+
+pub returns-clause-other_row : goal.returns-clause-other_row
+unfolding line_read row_read reading_of parsed
+returns-clause-other_row c = refl
+
+pub returns-clause-unknown : goal.returns-clause-unknown
+unfolding line_read row_read reading_of parsed
+returns-clause-unknown c = refl

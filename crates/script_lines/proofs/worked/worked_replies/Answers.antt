@@ -1,0 +1,67 @@
+use Rattle.std.proofs.Common.{refl}
+use Rattle.std.specs.Fmt.{digits}
+use Rattle.script_lines.proofs.worked.worked_replies.Goals as goal
+
+pub returns-clause-fine : goal.returns-clause-fine
+unfolding digits
+returns-clause-fine c = refl
+
+pub returns-clause-placed : goal.returns-clause-placed
+unfolding digits
+returns-clause-placed c = refl
+
+pub returns-clause-row : goal.returns-clause-row
+unfolding digits
+returns-clause-row c = refl
+
+pub returns-clause-long : goal.returns-clause-long
+unfolding digits
+returns-clause-long c = refl
+
+pub returns-clause-full : goal.returns-clause-full
+unfolding digits
+returns-clause-full c = refl
+
+pub returns-clause-used : goal.returns-clause-used
+unfolding digits
+returns-clause-used c = refl
+
+pub returns-clause-earlier : goal.returns-clause-earlier
+unfolding digits
+returns-clause-earlier c = refl
+
+pub returns-clause-undo : goal.returns-clause-undo
+unfolding digits
+returns-clause-undo c = refl
+
+pub returns-clause-redo : goal.returns-clause-redo
+unfolding digits
+returns-clause-redo c = refl
+
+pub returns-clause-marks : goal.returns-clause-marks
+unfolding digits
+returns-clause-marks c = refl
+
+pub returns-clause-mark : goal.returns-clause-mark
+unfolding digits
+returns-clause-mark c = refl
+
+pub returns-clause-result : goal.returns-clause-result
+unfolding digits
+returns-clause-result c = refl
+
+pub returns-clause-fault : goal.returns-clause-fault
+unfolding digits
+returns-clause-fault c = refl
+
+pub returns-clause-value : goal.returns-clause-value
+unfolding digits
+returns-clause-value c = refl
+
+pub returns-clause-no_rows : goal.returns-clause-no_rows
+unfolding digits
+returns-clause-no_rows c = refl
+
+pub returns-clause-rows : goal.returns-clause-rows
+unfolding digits
+returns-clause-rows c = refl

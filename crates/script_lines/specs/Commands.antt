@@ -1,0 +1,134 @@
+-- What a line is as a command. It is read from left to right, and the first word that breaks a rule decides; its
+-- place is counted from 1. Where the line ends too early, the place is the one behind its end.
+use Rattle.std.specs.Prelude.{ℕ, ◌+◌, ◌||◌, Bool, if◌then◌else◌, List, [], ◌∷◌, length, Option, Some, None, Result, Ok, Err, bytes_eq, codes}
+use Rattle.formula_ast.specs.Names.{is_plain_name, is_name}
+use Rattle.line_words.specs.Words.{Word, words_from, written_part}
+use Rattle.sheet_rows.specs.Rows.{Row}
+use Rattle.sheet_rows.specs.Regular.{IsRegular}
+use Rattle.sheet_rows.specs.Reading.{Read as ReadRow, row_read}
+use Rattle.answers.specs.Commands.{Edit, Command, Add, Set, Remove, Change, Undo, Redo, Mark, Restore, Ask, AskAt}
+use Rattle.answers.specs.declared.command.Query.{Query}
+use Rattle.answers.specs.declared.command.Query.TheVariants.{Value, Dump}
+use Rattle.answers.specs.declared.fault.LineFault.{LineFault}
+use Rattle.answers.specs.declared.fault.LineFault.TheVariants.{Syntax, Row as RowRefused, LongLine as TooLong, NotBuilt}
+use Rattle.script_lines.specs.declared.item.Item.{Item}
+use Rattle.script_lines.specs.declared.item.Item.TheVariants.{Line, LongLine}
+use Rattle.script_lines.specs.declared.verb.Verb.{Verb}
+use Rattle.script_lines.specs.declared.verb.Verb.TheVariants.{Set as SetVerb, Remove as RemoveVerb, Undo as UndoVerb, Redo as RedoVerb, Mark as MarkVerb, Restore as RestoreVerb, At as AtVerb, Ask as AskVerb, Row as RowVerb}
+
+abbrev pub Read : Type 0 → Type 0
+Read A = Result A LineFault
+
+abbrev pub mapped : {A B : Type 0} → (A → B) → Read A → Read B
+mapped make (Ok x) = Ok (make x)
+mapped make (Err fault) = Err fault
+
+-- ---- words behind the first. `end` is the length of the line
+-- no word more
+abbrev pub alone : {A : Type 0} → A → List Word → Read A
+alone x [] = Ok x
+alone x (w ∷ ws) = Err (Syntax (w.place + 1))
+
+abbrev pub no_more : List Word → Read (Unit {0})
+no_more ws = alone tt ws
+
+-- a plain name, and no word more
+abbrev pub sole_name : ℕ → List Word → Read (List ℕ)
+sole_name end [] = Err (Syntax (end + 1))
+sole_name end (w ∷ ws) = if is_plain_name w.text then alone w.text ws else Err (Syntax (w.place + 1))
+
+-- ---- queries
+-- words that begin a query of the language that this version does not have
+abbrev pub is_other_moment : List ℕ → Bool
+is_other_moment text =
+    bytes_eq text (codes "var") || (bytes_eq text (codes "cov") || (bytes_eq text (codes "r") || bytes_eq text (codes "sens")))
+
+abbrev pub is_other_result : List ℕ → Bool
+is_other_result text =
+    bytes_eq text (codes "dof") || (bytes_eq text (codes "report") || (bytes_eq text (codes "expanded")
+    || (bytes_eq text (codes "decide") || bytes_eq text (codes "budget"))))
+
+abbrev pub is_other_query : List ℕ → Bool
+is_other_query text = is_other_moment text || is_other_result text
+
+abbrev pub is_query_word : List ℕ → Bool
+is_query_word text = bytes_eq text (codes "value") || (bytes_eq text (codes "dump") || is_other_query text)
+
+-- the name whose value is asked for; a column's may be asked for too
+abbrev pub value_query : ℕ → List Word → Read Query
+value_query end [] = Err (Syntax (end + 1))
+value_query end (w ∷ ws) = if is_name w.text then alone (Value w.text) ws else Err (Syntax (w.place + 1))
+
+-- the query that the word `w` begins
+abbrev pub query_with : ℕ → Word → List Word → Read Query
+query_with end w ws =
+    if bytes_eq w.text (codes "value") then value_query end ws else
+    if bytes_eq w.text (codes "dump") then alone Dump ws else
+    if is_other_query w.text then Err NotBuilt else Err (Syntax (w.place + 1))
+
+abbrev pub query_of : ℕ → List Word → Read Query
+query_of end [] = Err (Syntax (end + 1))
+query_of end (w ∷ ws) = query_with end w ws
+
+-- the name of a mark, and a query to the sheet that is kept under it
+abbrev pub query_at : ℕ → List Word → Read (List ℕ × Query)
+query_at end [] = Err (Syntax (end + 1))
+query_at end (w ∷ ws) = if is_plain_name w.text then mapped (λ query. (w.text, query)) (query_of end ws) else Err (Syntax (w.place + 1))
+
+-- ---- commands
+-- what begins no other command is to begin a row
+abbrev pub verb_of : List ℕ → Verb
+verb_of text =
+    if bytes_eq text (codes "set") then SetVerb else
+    if bytes_eq text (codes "remove") then RemoveVerb else
+    if bytes_eq text (codes "undo") then UndoVerb else
+    if bytes_eq text (codes "redo") then RedoVerb else
+    if bytes_eq text (codes "mark") then MarkVerb else
+    if bytes_eq text (codes "restore") then RestoreVerb else
+    if bytes_eq text (codes "at") then AtVerb else
+    if is_query_word text then AskVerb else RowVerb
+
+-- the row that a line gives
+abbrev pub row_of_line : ReadRow Row → Read Row
+row_of_line (Ok row) = Ok row
+row_of_line (Err fault) = Err (RowRefused fault)
+
+-- the command of a line whose first word is `w`; `end` is the line's length without its comment and last blanks
+abbrev pub command_with : Verb → List ℕ → ℕ → Word → List Word → Read Command
+command_with SetVerb line end w ws = mapped (λ row. Change (Set row)) (row_of_line (row_read line (w.place + length w.text)))
+command_with RemoveVerb line end w ws = mapped (λ name. Change (Remove name)) (sole_name end ws)
+command_with UndoVerb line end w ws = mapped (λ done. Undo) (no_more ws)
+command_with RedoVerb line end w ws = mapped (λ done. Redo) (no_more ws)
+command_with MarkVerb line end w ws = mapped Mark (sole_name end ws)
+command_with RestoreVerb line end w ws = mapped Restore (sole_name end ws)
+command_with AtVerb line end w ws = mapped (λ asked. AskAt asked.0 asked.1) (query_at end ws)
+command_with AskVerb line end w ws = mapped Ask (query_with end w ws)
+command_with RowVerb line end w ws = mapped (λ row. Change (Add row)) (row_of_line (row_read line 0))
+
+-- a line without words is no command
+abbrev pub line_with : List ℕ → ℕ → List Word → Read (Option Command)
+line_with line end [] = Ok None
+line_with line end (w ∷ ws) = mapped Some (command_with (verb_of w.text) line end w ws)
+
+-- the command that the line is, if any
+unfoldable pub line_read : List ℕ → Read (Option Command)
+line_read line = line_with line (length (written_part line)) (words_from (written_part line) 0)
+
+abbrev pub command_read : Item → Read (Option Command)
+command_read LongLine = Err TooLong
+command_read (Line line) = line_read line
+
+-- ---- the rows of commands are regular
+abbrev pub IsRegularEdit : Edit → Type 0
+IsRegularEdit (Add row) = IsRegular row
+IsRegularEdit (Set row) = IsRegular row
+IsRegularEdit (Remove name) = Unit {0}
+
+abbrev pub IsRegularCommand : Command → Type 0
+IsRegularCommand (Change edit) = IsRegularEdit edit
+IsRegularCommand Undo = Unit {0}
+IsRegularCommand Redo = Unit {0}
+IsRegularCommand (Mark name) = Unit {0}
+IsRegularCommand (Restore name) = Unit {0}
+IsRegularCommand (Ask query) = Unit {0}
+IsRegularCommand (AskAt name query) = Unit {0}

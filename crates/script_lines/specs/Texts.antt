@@ -1,0 +1,151 @@
+-- The texts of replies, each of whole lines.
+use Rattle.std.specs.Prelude.{ℕ, Bool, true, false, List, [], ◌∷◌, ◌++◌, codes, decimal}
+use Rattle.decimal18.specs.Text.{text_of}
+use Rattle.fixed_interval.specs.declared.faults.ArithFault.{ArithFault}
+use Rattle.fixed_interval.specs.declared.faults.ArithFault.TheVariants.{ZeroDivisor, Overflow}
+use Rattle.sheet_rows.specs.Rows.{Row}
+use Rattle.sheet_rows.specs.Printing.{printed}
+use Rattle.sheet_rows.specs.declared.fault.RowFault.{RowFault}
+use Rattle.sheet_rows.specs.declared.fault.RowFault.TheVariants.{Syntax, NotNumber, NumberRange, UnknownFunction, BadPower, TooDeep, TooManyNodes, Negative, NotBuilt, OutOfMemory}
+use Rattle.sheet_rows.specs.declared.edit_fault.EditFault.{EditFault}
+use Rattle.sheet_rows.specs.declared.edit_fault.EditFault.TheVariants.{RowsFull, Duplicate, Unknown, NotEarlier, InUse, OutOfMemory as EditMemory}
+use Rattle.answers.specs.declared.fault.LineFault.{LineFault}
+use Rattle.answers.specs.declared.fault.LineFault.TheVariants.{Syntax as LineSyntax, Row as RowRefused, LongLine, NotBuilt as LineNotBuilt, OutOfMemory as LineMemory}
+use Rattle.answers.specs.declared.fault.HistoryFault.{HistoryFault}
+use Rattle.answers.specs.declared.fault.HistoryFault.TheVariants.{NothingToUndo, NothingToRedo, OutOfMemory as HistoryMemory}
+use Rattle.answers.specs.declared.fault.MarkFault.{MarkFault}
+use Rattle.answers.specs.declared.fault.MarkFault.TheVariants.{MarksFull, NoMark, OutOfMemory as MarkMemory}
+use Rattle.answers.specs.declared.fault.AskFault.{AskFault}
+use Rattle.answers.specs.declared.fault.AskFault.TheVariants.{NoMark as AskNoMark, NoSuchResult, OutOfMemory as AskMemory}
+use Rattle.answers.specs.declared.reply.Answer.{Answer}
+use Rattle.answers.specs.declared.reply.Answer.TheVariants.{Value, Dump, ValueFault}
+use Rattle.answers.specs.declared.reply.Reply.{Reply}
+use Rattle.answers.specs.declared.reply.Reply.TheVariants.{Fine, Line, Edit, History, Mark, Ask, Said}
+
+-- some words, and a name or a number behind them
+abbrev pub named : List ℕ → List ℕ → List ℕ
+named words name = words ++ name ++ codes "\n"
+
+abbrev pub placed : List ℕ → ℕ → List ℕ
+placed words place = words ++ decimal place ++ codes "\n"
+
+-- ---- refusals; a want of memory has no text
+abbrev pub text_of_row_fault : RowFault → List ℕ
+text_of_row_fault (Syntax at) = placed (codes "refused syntax ") at
+text_of_row_fault (NotNumber at) = placed (codes "refused not_number ") at
+text_of_row_fault (NumberRange at) = placed (codes "refused number_range ") at
+text_of_row_fault (UnknownFunction at) = placed (codes "refused unknown_function ") at
+text_of_row_fault (BadPower at) = placed (codes "refused bad_power ") at
+text_of_row_fault (TooDeep at) = placed (codes "refused too_deep ") at
+text_of_row_fault (TooManyNodes at) = placed (codes "refused too_many_nodes ") at
+text_of_row_fault Negative = codes "refused negative\n"
+text_of_row_fault NotBuilt = codes "refused not_built\n"
+text_of_row_fault OutOfMemory = []
+
+abbrev pub text_of_line_fault : LineFault → List ℕ
+text_of_line_fault (LineSyntax at) = placed (codes "refused syntax ") at
+text_of_line_fault (RowRefused fault) = text_of_row_fault fault
+text_of_line_fault LongLine = codes "refused long_line\n"
+text_of_line_fault LineNotBuilt = codes "refused not_built\n"
+text_of_line_fault LineMemory = []
+
+abbrev pub text_of_edit_fault : EditFault → List ℕ
+text_of_edit_fault RowsFull = codes "refused rows_full\n"
+text_of_edit_fault (Duplicate name) = named (codes "refused duplicate ") name
+text_of_edit_fault (Unknown name) = named (codes "refused unknown ") name
+text_of_edit_fault (NotEarlier name) = named (codes "refused not_earlier ") name
+text_of_edit_fault (InUse name) = named (codes "refused in_use ") name
+text_of_edit_fault EditMemory = []
+
+abbrev pub text_of_history_fault : HistoryFault → List ℕ
+text_of_history_fault NothingToUndo = codes "refused nothing_to_undo\n"
+text_of_history_fault NothingToRedo = codes "refused nothing_to_redo\n"
+text_of_history_fault HistoryMemory = []
+
+abbrev pub text_of_mark_fault : MarkFault → List ℕ
+text_of_mark_fault MarksFull = codes "refused marks_full\n"
+text_of_mark_fault (NoMark name) = named (codes "refused no_mark ") name
+text_of_mark_fault MarkMemory = []
+
+abbrev pub text_of_ask_fault : AskFault → List ℕ
+text_of_ask_fault (AskNoMark name) = named (codes "refused no_mark ") name
+text_of_ask_fault (NoSuchResult name) = named (codes "refused no_such_result ") name
+text_of_ask_fault AskMemory = []
+
+-- ---- answers
+-- the words in front of the row in which a fault arose
+abbrev pub arithmetic_words : ArithFault → List ℕ
+arithmetic_words ZeroDivisor = codes "fault zero_divisor "
+arithmetic_words Overflow = codes "fault overflow "
+
+-- the rows, a line each
+abbrev pub text_of_rows : List Row → List ℕ
+text_of_rows [] = []
+text_of_rows (row ∷ rows) = printed row ++ codes "\n" ++ text_of_rows rows
+
+abbrev pub text_of_answer : Answer → List ℕ
+text_of_answer (Value name span) = codes "value " ++ name ++ codes " " ++ text_of span.lo ++ codes " " ++ text_of span.hi ++ codes "\n"
+text_of_answer (Dump rows) = text_of_rows rows ++ codes "ok\n"
+text_of_answer (ValueFault fault row) = named (arithmetic_words fault) row
+
+-- ---- replies
+abbrev pub text_of_reply : Reply → List ℕ
+text_of_reply Fine = codes "ok\n"
+text_of_reply (Line fault) = text_of_line_fault fault
+text_of_reply (Edit fault) = text_of_edit_fault fault
+text_of_reply (History fault) = text_of_history_fault fault
+text_of_reply (Mark fault) = text_of_mark_fault fault
+text_of_reply (Ask fault) = text_of_ask_fault fault
+text_of_reply (Said answer) = text_of_answer answer
+
+-- ---- replies that say a want of memory
+abbrev pub is_row_memory : RowFault → Bool
+is_row_memory OutOfMemory = true
+is_row_memory (Syntax at) = false
+is_row_memory (NotNumber at) = false
+is_row_memory (NumberRange at) = false
+is_row_memory (UnknownFunction at) = false
+is_row_memory (BadPower at) = false
+is_row_memory (TooDeep at) = false
+is_row_memory (TooManyNodes at) = false
+is_row_memory Negative = false
+is_row_memory NotBuilt = false
+
+abbrev pub is_line_memory : LineFault → Bool
+is_line_memory LineMemory = true
+is_line_memory (RowRefused fault) = is_row_memory fault
+is_line_memory (LineSyntax at) = false
+is_line_memory LongLine = false
+is_line_memory LineNotBuilt = false
+
+abbrev pub is_edit_memory : EditFault → Bool
+is_edit_memory EditMemory = true
+is_edit_memory RowsFull = false
+is_edit_memory (Duplicate name) = false
+is_edit_memory (Unknown name) = false
+is_edit_memory (NotEarlier name) = false
+is_edit_memory (InUse name) = false
+
+abbrev pub is_history_memory : HistoryFault → Bool
+is_history_memory HistoryMemory = true
+is_history_memory NothingToUndo = false
+is_history_memory NothingToRedo = false
+
+abbrev pub is_mark_memory : MarkFault → Bool
+is_mark_memory MarkMemory = true
+is_mark_memory MarksFull = false
+is_mark_memory (NoMark name) = false
+
+abbrev pub is_ask_memory : AskFault → Bool
+is_ask_memory AskMemory = true
+is_ask_memory (AskNoMark name) = false
+is_ask_memory (NoSuchResult name) = false
+
+abbrev pub is_memory_fault : Reply → Bool
+is_memory_fault (Line fault) = is_line_memory fault
+is_memory_fault (Edit fault) = is_edit_memory fault
+is_memory_fault (History fault) = is_history_memory fault
+is_memory_fault (Mark fault) = is_mark_memory fault
+is_memory_fault (Ask fault) = is_ask_memory fault
+is_memory_fault Fine = false
+is_memory_fault (Said answer) = false

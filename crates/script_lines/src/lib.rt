@@ -1,0 +1,20 @@
+//! The lines of a script: how a text is cut into them, the commands that they are, and the texts of replies.
+#![tactic(auto)]
+
+mod item;
+mod print;
+mod print_fault;
+mod read;
+mod splitter;
+#[cfg(test)]
+mod tests;
+mod verb;
+mod words_behind;
+mod worked;
+
+pub use decimal18::OutOfMemory;
+pub use item::Item;
+pub use print::print_reply;
+pub use read::read_command;
+pub use splitter::Splitter;
+pub use worked::{worked_commands, worked_items, worked_refusals, worked_replies};

@@ -1,0 +1,211 @@
+//! Texts in pieces, lines that are refused, and printed replies.
+
+ghost use Rattle.std.specs.Prelude.{IsFalse};
+ghost use Rattle.script_lines.specs.Texts.{is_memory_fault};
+
+use crate::{Item, Splitter, print_reply, read_command};
+use answers::{Answer, AskFault, HistoryFault, LineFault, MarkFault, Reply, RowList};
+use decimal18::Bytes;
+use fixed_interval::ArithFault;
+use formula_ast::Name;
+use sheet_rows::{EditFault, RowFault, read_row};
+use std::alloc::Global;
+use std::rc::Rc;
+use std::test::Fail;
+
+/// A text, and its lines.
+const TEXT: &[u8; 28] = b"undo\r\n\nredo\r\r\n\0a\rb\nlast # c\r";
+
+const LINES: [&[u8]; 5] = [b"undo", b"", b"redo\r", b"\0a\rb", b"last # c\r"];
+
+// Whether the item is a line of these bytes.
+fn is_line(item: &Option<Item>, bytes: &[u8]) -> bool {
+    match item {
+        Some(Item::Line(line)) => line.as_slice() == bytes,
+        _ => false,
+    }
+}
+
+fn is_long(item: &Option<Item>) -> bool {
+    match item {
+        Some(Item::LongLine) => true,
+        _ => false,
+    }
+}
+
+#[test]
+fn lines_of_a_text_that_comes_byte_by_byte(rt: HostRuntime) -> Result<(), Fail> {
+    let mut splitter = Splitter::new(rt.alloc())?;
+    let mut count = 0;
+    for byte in TEXT {
+        splitter.feed(&[*byte])?;
+        let item = splitter.take()?;
+        if item.is_some() && count < 4 {
+            assert!(rt; is_line(&item, LINES[count]), "at {count}");
+            count += 1;
+        }
+    }
+    assert_eq!(rt; count, 4);
+    if splitter.take()?.is_some() {
+        panic!(rt; "a line too many");
+    }
+    assert!(rt; is_line(&splitter.finish()?, LINES[4]));
+    Ok(())
+}
+
+#[test]
+fn lines_of_a_text_that_comes_whole(rt: HostRuntime) -> Result<(), Fail> {
+    let mut splitter = Splitter::new(rt.alloc())?;
+    splitter.feed(TEXT)?;
+    for line in &LINES[..4] {
+        assert!(rt; is_line(&splitter.take()?, line));
+    }
+    splitter.feed(b"\n")?;
+    assert!(rt; is_line(&splitter.take()?, b"last # c"));
+    if splitter.take()?.is_some() {
+        panic!(rt; "a line too many");
+    }
+    assert!(rt; splitter.finish()?.is_none());
+    Ok(())
+}
+
+// So many times the byte, and a line feed.
+fn feed_many(splitter: &mut Splitter, byte: u8, count: usize) -> Result<(), Fail> {
+    for _ in 0..count {
+        splitter.feed(&[byte])?;
+    }
+    splitter.feed(b"\n")?;
+    Ok(())
+}
+
+#[test]
+fn lines_of_the_most_bytes_and_one_more(rt: HostRuntime) -> Result<(), Fail> {
+    let mut splitter = Splitter::new(rt.alloc())?;
+    feed_many(&mut splitter, b'a', 65_536)?;
+    feed_many(&mut splitter, b'a', 65_537)?;
+    feed_many(&mut splitter, b'\r', 65_536)?;
+    feed_many(&mut splitter, b'\r', 65_537)?;
+    for (long, len) in [(false, 65_536), (true, 0), (false, 65_535), (true, 0)] {
+        let item = splitter.take()?;
+        assert_eq!(rt; is_long(&item), long);
+        if let Some(Item::Line(line)) = item {
+            assert_eq!(rt; line.as_slice().len(), len);
+        }
+    }
+    feed_many(&mut splitter, b'b', 65_537)?;
+    assert!(rt; is_long(&splitter.take()?));
+    Ok(())
+}
+
+/// Lines that are no commands, and why. Places are counted from 1.
+const REFUSED: [(&str, LineFault); 20] = [
+    ("undo\r", LineFault::Row(RowFault::Syntax(1))),
+    ("dump x", LineFault::Syntax(6)),
+    ("undo 1", LineFault::Syntax(6)),
+    ("redo\tredo", LineFault::Syntax(6)),
+    ("mark", LineFault::Syntax(5)),
+    ("mark 1", LineFault::Syntax(6)),
+    ("restore M N", LineFault::Syntax(11)),
+    ("at", LineFault::Syntax(3)),
+    ("at M", LineFault::Syntax(5)),
+    ("at T.V dump", LineFault::Syntax(4)),
+    ("at M value", LineFault::Syntax(11)),
+    ("at M var X", LineFault::NotBuilt),
+    ("at M undo", LineFault::Syntax(6)),
+    ("report X", LineFault::NotBuilt),
+    ("value 5", LineFault::Syntax(7)),
+    ("set", LineFault::Row(RowFault::Syntax(4))),
+    ("set undo", LineFault::Row(RowFault::Syntax(5))),
+    ("set given X 5 foo", LineFault::Row(RowFault::Syntax(15))),
+    ("remove T.V", LineFault::Syntax(8)),
+    ("\0", LineFault::Row(RowFault::Syntax(1))),
+];
+
+/// Lines that are commands.
+const READ: [&str; 10] = [
+    "given X 5 std 1 # a note",
+    "set let Y=5",
+    "remove X",
+    "undo#1",
+    " redo ",
+    "mark M",
+    "restore M",
+    "value T.V",
+    "dump",
+    "at M value X",
+];
+
+fn fault_of(alloc: Global, line: &str) -> Result<Option<LineFault>, Fail> {
+    let item = Item::Line(Bytes::from_slice(alloc, line.as_bytes())?);
+    match read_command(alloc, &item) {
+        Ok(_) => Ok(None),
+        Err(fault) => Ok(Some(fault)),
+    }
+}
+
+#[test]
+fn lines_that_are_no_commands(rt: HostRuntime) -> Result<(), Fail> {
+    for (line, fault) in REFUSED {
+        assert_eq!(rt; fault_of(rt.alloc(), line)?, Some(fault), "at {line}");
+    }
+    let Err(LineFault::LongLine) = read_command(rt.alloc(), &Item::LongLine) else {
+        panic!(rt; "a line that is too long");
+    };
+    Ok(())
+}
+
+#[test]
+fn lines_that_are_commands(rt: HostRuntime) -> Result<(), Fail> {
+    for line in READ {
+        let item = Item::Line(Bytes::from_slice(rt.alloc(), line.as_bytes())?);
+        let Ok(Some(_)) = read_command(rt.alloc(), &item) else {
+            panic!(rt; "no command: {line}");
+        };
+    }
+    let blank = Item::Line(Bytes::from_slice(rt.alloc(), b" # undo")?);
+    let Ok(None) = read_command(rt.alloc(), &blank) else {
+        panic!(rt; "a command in a comment");
+    };
+    Ok(())
+}
+
+// Whether this is the text of the reply.
+fn prints(alloc: Global, reply: Reply, text: &str) -> Result<bool, Fail>
+    requires { IsFalse (is_memory_fault reply) }
+{
+    Ok(print_reply(alloc, &reply)?.as_slice() == text.as_bytes())
+}
+
+#[test]
+fn replies_are_printed(rt: HostRuntime) -> Result<(), Fail> {
+    let alloc = rt.alloc();
+    let name = Name::new(b"Y").ok_or("a name")?;
+    let power = LineFault::Row(RowFault::BadPower(300));
+    assert!(rt; prints(alloc, Reply::Fine, "ok\n")?);
+    assert!(rt; prints(alloc, Reply::Line(LineFault::LongLine), "refused long_line\n")?);
+    assert!(rt; prints(alloc, Reply::Line(power), "refused bad_power 300\n")?);
+    let fault = EditFault::NotEarlier(name);
+    assert!(rt; prints(alloc, Reply::Edit(fault), "refused not_earlier Y\n")?);
+    let fault = HistoryFault::NothingToRedo;
+    assert!(rt; prints(alloc, Reply::History(fault), "refused nothing_to_redo\n")?);
+    assert!(rt; prints(alloc, Reply::Mark(MarkFault::MarksFull), "refused marks_full\n")?);
+    let fault = AskFault::NoSuchResult(name);
+    assert!(rt; prints(alloc, Reply::Ask(fault), "refused no_such_result Y\n")?);
+    Ok(())
+}
+
+// The rows of a sheet, and an interval, are printed as the rows and bounds are.
+#[test]
+fn answers_are_printed(rt: HostRuntime) -> Result<(), Fail> {
+    let alloc = rt.alloc();
+    let name = Name::new(b"T.V").ok_or("a name")?;
+    let Ok(row) = read_row(alloc, b"let Y=X+ 2", 0) else {
+        panic!(rt; "no row");
+    };
+    let mut rows = RowList::new(alloc);
+    rows.push(Rc::new(alloc, row)?)?;
+    assert!(rt; prints(alloc, Reply::Said(Answer::Dump(rows)), "let Y = X + 2\nok\n")?);
+    let fault = Answer::ValueFault(ArithFault::Overflow, name);
+    assert!(rt; prints(alloc, Reply::Said(fault), "fault overflow T.V\n")?);
+    Ok(())
+}
