@@ -1,3 +1,1 @@
-pub mod Serving
-pub mod Reading
 pub mod Sound

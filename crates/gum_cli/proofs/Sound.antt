@@ -1,68 +1,89 @@
 -- Each interval that a reply prints encloses the exact value of its name's expanded formula.
-use Rattle.std.specs.Prelude.{◌≡◌, ℕ, Bool, true, false, if◌then◌else◌, List, [], ◌∷◌, ◌++◌, Option, Some, None, Result, Ok, Err, refl}
-use Rattle.std.proofs.Common.{subst}
+use Rattle.std.specs.Prelude.{◌≡◌, ℕ, List, [], ◌∷◌, Option, Some, None, Result, Ok, Err, IfOk, IfSome, refl}
+use Rattle.std.proofs.Common.{sym, ◌∙◌, ap, subst}
+use Rattle.fixed_interval.specs.Interval.{Interval}
 use Rattle.sheet_rows.specs.Rows.{Row, Given, Formula}
 use Rattle.sheet_rows.specs.Regular.{IsRegular}
-use Rattle.sheet_values.specs.Quantities.{Quantity}
 use Rattle.sheet_values.specs.Evaluations.{evaluation_of}
-use Rattle.sheet_values.specs.Model.{BodyHasExponents, AllHaveExponents}
 use Rattle.sheet_values.specs.declared.evaluation.Evaluation.{Evaluation}
 use Rattle.sheet_values.specs.declared.evaluation.Evaluation.TheVariants.{Enclosed, Fault}
 use Rattle.sheet_values.proofs.Sound.{values_enclosed}
-use Rattle.gum_cli.specs.Commands.{Command, Add, Value, Line, Blank, Refused, Carried, read_line, IsRegularLine}
-use Rattle.gum_cli.specs.Script.{Sheet, name_of, quantity_of, unknown_in, unless_unknown, evaluated, reply_to, is_accepted, sheet_after, replies_of, sheet_behind, IsSound, AllSound, AreSound}
-use Rattle.gum_cli.specs.declared.reply.Reply.{Reply}
-use Rattle.gum_cli.specs.declared.reply.Reply.TheVariants.{Duplicate}
-use Rattle.gum_cli.proofs.Reading.{line_regular}
+use Rattle.answers.specs.Commands.{Edit, Add, Set, Remove, Command, Change, Undo, Redo, Mark, Restore, Ask, AskAt}
+use Rattle.answers.specs.declared.command.Query.{Query}
+use Rattle.answers.specs.declared.command.Query.TheVariants.{Value as AskValue, Dump as AskDump}
+use Rattle.script_lines.specs.declared.item.Item.{Item}
+use Rattle.script_lines.specs.Commands.{Read, command_read, IsRegularEdit, IsRegularCommand}
+use Rattle.edit_session.specs.Replies.{quantity_of, quantities, value_reply, reply_to}
+use Rattle.edit_session.specs.Machine.{State, initial, kept_as, step, reply_at}
+use Rattle.edit_session.specs.Calculable.{IsCalculable, IsSound, RowHasExponents, EditHasExponents, CommandHasExponents}
+use Rattle.edit_session.proofs.Soundness.{initial_sound, step_sound, kept-sound}
+use Rattle.gum_cli.specs.Script.{replies_of, state_behind, IsSoundReply, asked, IsSoundOn, IsSoundLine, AreSound}
+use Rattle.script_lines.proofs.RegularLines.{read_regular}
 
--- ---- the exponents of a sheet
-quantity_exponents : (row : Row) → IsRegular row → BodyHasExponents ((quantity_of row).body)
-quantity_exponents (Given name estimate shape dof) h = tt
-quantity_exponents (Formula name f) h = h.1
+-- ---- regular rows have exponents in range
+row_exponents : (row : Row) → IsRegular row → RowHasExponents row
+row_exponents (Given name estimate shape dof) h = tt
+row_exponents (Formula name f) h = h.1
 
-exponents-added : (sheet : Sheet) (q : Quantity) → AllHaveExponents sheet → BodyHasExponents q.body → AllHaveExponents (sheet ++ q ∷ [])
-exponents-added [] q h k = (k, tt)
-exponents-added (first ∷ qs) q h k = (h.0, exponents-added qs q h.1 k)
+edit_exponents : (edit : Edit) → IsRegularEdit edit → EditHasExponents edit
+edit_exponents (Add row) h = row_exponents row h
+edit_exponents (Set row) h = row_exponents row h
+edit_exponents (Remove name) h = tt
 
-if_exponents : (test : Bool) (a b : Sheet) → AllHaveExponents a → AllHaveExponents b → AllHaveExponents (if test then a else b)
-if_exponents true a b h k = h
-if_exponents false a b h k = k
-
-after_exponents : (sheet : Sheet) (line : Line) → AllHaveExponents sheet → IsRegularLine line → AllHaveExponents (sheet_behind sheet line)
-after_exponents sheet Blank h k = h
-after_exponents sheet (Refused fault) h k = h
-after_exponents sheet (Carried (Value name)) h k = h
-after_exponents sheet (Carried (Add row)) h k =
-    if_exponents (is_accepted (reply_to sheet (Add row))) _ sheet (exponents-added sheet (quantity_of row) h (quantity_exponents row k)) h
+pub command_exponents : (command : Command) → IsRegularCommand command → CommandHasExponents command
+command_exponents (Change edit) h = edit_exponents edit h
+command_exponents Undo h = tt
+command_exponents Redo h = tt
+command_exponents (Mark name) h = tt
+command_exponents (Restore name) h = tt
+command_exponents (Ask query) h = tt
+command_exponents (AskAt name query) h = tt
 
 -- ---- replies
-evaluated_sound : (sheet : Sheet) → AllHaveExponents sheet → (name : List ℕ) (e : Option Evaluation) → evaluation_of sheet name ≡ e
-    → IsSound sheet (evaluated name e)
-evaluated_sound sheet h name None e = tt
-evaluated_sound sheet h name (Some (Fault fault row)) e = tt
-evaluated_sound sheet h name (Some (Enclosed s)) e = values_enclosed sheet h name s e
+value_sound : (sheet : List Row) → IsCalculable sheet → (name : List ℕ) (e : Option Evaluation) → evaluation_of (quantities sheet) name ≡ e
+    → IsSoundReply sheet (value_reply name e)
+value_sound sheet h name None e = tt
+value_sound sheet h name (Some (Fault fault row)) e = tt
+value_sound sheet h name (Some (Enclosed s)) e = values_enclosed (quantities sheet) h.exponents name s e
 
-if_sound : (sheet : Sheet) (test : Bool) (a b : Reply) → IsSound sheet a → IsSound sheet b → IsSound sheet (if test then a else b)
-if_sound sheet true a b h k = h
-if_sound sheet false a b h k = k
+query_sound : (sheet : List Row) → IsCalculable sheet → (query : Query) → IsSoundReply sheet (reply_to sheet query)
+query_sound sheet h (AskValue name) = value_sound sheet h name (evaluation_of (quantities sheet) name) refl
+query_sound sheet h AskDump = tt
 
-unless_unknown_sound : (sheet : Sheet) (name : Option (List ℕ)) → IsSound sheet (unless_unknown name)
-unless_unknown_sound sheet None = tt
-unless_unknown_sound sheet (Some name) = tt
+kept_sound : (state : State) → IsSound state → (name : List ℕ) (query : Query) (o : Option (List Row)) → kept_as state.marks name ≡ o
+    → IsSoundOn o (reply_at name o query)
+kept_sound state h name query None e = tt
+kept_sound state h name query (Some sheet) e = query_sound sheet (kept-sound state.marks name sheet e h.marks) query
 
-reply_sound : (sheet : Sheet) → AllHaveExponents sheet → (command : Command) → IsSound sheet (reply_to sheet command)
-reply_sound sheet h (Add row) = if_sound sheet _ (Duplicate (name_of row)) _ tt (unless_unknown_sound sheet (unknown_in sheet row))
-reply_sound sheet h (Value name) = evaluated_sound sheet h name (evaluation_of sheet name) refl
+command_sound : (state : State) → IsSound state → (command : Command) → IsSoundOn (asked state command) (step state command).1
+command_sound state h (Change edit) = tt
+command_sound state h Undo = tt
+command_sound state h Redo = tt
+command_sound state h (Mark name) = tt
+command_sound state h (Restore name) = tt
+command_sound state h (Ask query) = query_sound state.present h.present query
+command_sound state h (AskAt name query) = kept_sound state h name query (kept_as state.marks name) refl
 
-line_sound : (sheet : Sheet) → AllHaveExponents sheet → (line : Line) → AllSound sheet (replies_of sheet line)
-line_sound sheet h Blank = tt
-line_sound sheet h (Refused fault) = (tt, tt)
-line_sound sheet h (Carried command) = (reply_sound sheet h command, tt)
+-- ---- lines
+abbrev IsRegularLine : Read (Option Command) → Type 0
+IsRegularLine r = IfOk r (λ read. IfSome read IsRegularCommand)
 
-sound_from : (sheet : Sheet) → AllHaveExponents sheet → (lines : List (List ℕ)) → AreSound sheet lines
-sound_from sheet h [] = tt
-sound_from sheet h (line ∷ lines) =
-    (line_sound sheet h (read_line line), sound_from (sheet_behind sheet (read_line line)) (after_exponents sheet (read_line line) h (line_regular line)) lines)
+line_sound : (state : State) → IsSound state → (r : Read (Option Command)) → IsSoundLine state r
+line_sound state h (Err fault) = tt
+line_sound state h (Ok None) = tt
+line_sound state h (Ok (Some command)) = command_sound state h command
 
-pub all_sound : (lines : List (List ℕ)) → AreSound [] lines
-all_sound lines = sound_from [] tt lines
+behind_sound : (state : State) → IsSound state → (r : Read (Option Command)) → IsRegularLine r → IsSound (state_behind state r)
+behind_sound state h (Err fault) k = h
+behind_sound state h (Ok None) k = h
+behind_sound state h (Ok (Some command)) k = step_sound state command h (command_exponents command k)
+
+sound_from : (state : State) → IsSound state → (items : List Item) → AreSound state items
+sound_from state h [] = tt
+sound_from state h (item ∷ items) = (
+  line_sound state h (command_read item),
+  sound_from (state_behind state (command_read item)) (behind_sound state h (command_read item) (read_regular item)) items,
+)
+
+pub all_sound : (items : List Item) → AreSound initial items
+all_sound items = sound_from initial initial_sound items

@@ -1,5 +1,2 @@
-pub mod Lines
-pub mod Commands
-pub mod Views
 pub mod Script
 pub mod Run

@@ -4,7 +4,8 @@ use Rattle.std.specs.Io.KnownBytes.{IsAtEnd}
 use Rattle.std.specs.declared.alloc.Global.{Global}
 use Rattle.byte_io.specs.Source.{Took}
 use Rattle.byte_io.specs.Sink.{Wrote, WrotePart}
-use Rattle.gum_cli.specs.Lines.{lines_of}
+use Rattle.script_lines.specs.Items.{items_of}
+use Rattle.edit_session.specs.Machine.{initial}
 use Rattle.gum_cli.specs.Script.{out, early, AreSound}
 
 -- the most bytes of a script
@@ -44,7 +45,7 @@ pub record IsDone (count count' : ℕ) (taken taken' left left' : Option (List �
   pub met_end : IsTrue ended'
   pub none_left : IsAtEnd left'
   pub wrote : Wrote written written' room room' (out script)
-  pub sound : AreSound [] (lines_of script)
+  pub sound : AreSound initial (items_of script)
 
 -- a run that was cut off: what was written is a front of what was due
 pub record IsCutOff (count count' : ℕ) (taken taken' left left' : Option (List ℕ)) (ended' : Bool)

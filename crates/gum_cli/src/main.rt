@@ -2,9 +2,6 @@
 //! each to standard output.
 #![tactic(auto)]
 
-mod line;
-mod read;
-mod reply;
 mod respond;
 mod rows;
 mod run;

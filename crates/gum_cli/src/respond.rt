@@ -1,21 +1,19 @@
-ghost use Rattle.std.specs.Prelude.{◌≡◌, ◌++◌, ◌∷◌, List, ℕ, IfOk, OnOk};
-ghost use Rattle.sheet_values.specs.Quantities.{Quantity};
-ghost use Rattle.sheet_values.specs.Cells.{Keeps};
-ghost use Rattle.gum_cli.specs.Commands.{read_line};
-ghost use Rattle.gum_cli.specs.Script.{sheet_behind, replies_to, text_of_replies, out};
+ghost use Rattle.std.specs.Prelude.{◌≡◌, ◌++◌, ◌∷◌, [], List, IfOk, OnOk};
+ghost use Rattle.script_lines.specs.declared.item.Item.{Item};
+ghost use Rattle.script_lines.specs.Commands.{command_read};
+ghost use Rattle.gum_cli.specs.Script.{state_behind, replies_to, text_of_replies, out};
 
-use crate::line::Line;
-use crate::read::read_line;
-use crate::reply::Reply;
 use crate::serve::serve;
+use answers::{LineFault, Reply};
 use decimal18::OutOfMemory;
+use edit_session::Session;
 use fixed_interval::Steps;
-use formula_ast::cut;
-use sheet_values::Values;
+use script_lines::{Item, Splitter, print_reply, read_command};
+use sheet_rows::RowFault;
 use std::alloc::Global;
 use std::sync::ledger::Ledger;
 
-/// The replies to a script, each a line.
+/// The replies to a script.
 pub fn respond<L: Ledger>(
     alloc: Global,
     script: &[u8],
@@ -23,37 +21,38 @@ pub fn respond<L: Ledger>(
 ) -> Result<Vec<u8>, OutOfMemory>
     ensures { IfOk result (λ replies. replies.items ≡ out script.now) }
 {
-    let mut values = Values::new(alloc);
+    let mut session = Session::new(alloc)?;
+    let mut splitter = Splitter::new(alloc)?;
+    splitter.feed(script)?;
     let mut replies = Vec::new(alloc);
-    let mut rest = script;
-    'lines: loop {
-        let (line, behind) = cut(rest, b'\n');
-        answer_line(alloc, line, &mut values, &mut replies, steps)?;
-        let Some(behind) = behind else {
-            return Ok(replies);
-        };
-        rest = behind;
+    'items: while let Some(item) = splitter.take()? {
+        answer_item(alloc, &item, &mut session, &mut replies, steps)?;
     }
+    if let Some(item) = splitter.finish()? {
+        answer_item(alloc, &item, &mut session, &mut replies, steps)?;
+    }
+    Ok(replies)
 }
 
 // Answers one line, whichever lines come behind it. A line without words has no reply.
-fn answer_line<L: Ledger>(
+fn answer_item<L: Ledger>(
     alloc: Global,
-    line: &[u8],
-    values: &mut Values,
+    item: &Item,
+    session: &mut Session,
     replies: &mut Vec<u8>,
     steps: &mut Steps<L>,
 ) -> Result<(), OutOfMemory>
-    ensures sheet { (qs : List Quantity) → Keeps qs values.old
-        → OnOk result (Keeps (sheet_behind qs (read_line line.now)) values.new) }
-    ensures replies { (qs : List Quantity) → Keeps qs values.old → (lines : List (List ℕ)) → OnOk result
-        (replies.new.items ++ text_of_replies (replies_to (sheet_behind qs (read_line line.now)) lines)
-        ≡ replies.old.items ++ text_of_replies (replies_to qs (line.now ∷ lines))) }
+    ensures state { OnOk result (session.new ≡ state_behind session.old (command_read item.now)) }
+    ensures replies { (items : List Item) → OnOk result
+        (replies.new.items ++ text_of_replies (replies_to session.new items)
+        ≡ replies.old.items ++ text_of_replies (replies_to session.old (item.now ∷ items))) }
 {
-    let reply = match read_line(alloc, line)? {
-        Line::Blank => return Ok(()),
-        Line::Refused(fault) => Reply::Refused(fault),
-        Line::Carried(command) => serve(alloc, values, &command, steps)?,
+    let reply = match read_command(alloc, item) {
+        Ok(None) => return Ok(()),
+        Ok(Some(command)) => serve(session, command, steps)?,
+        Err(LineFault::OutOfMemory) => return Err(OutOfMemory),
+        Err(fault) => Reply::Line(fault),
     };
-    reply.print(alloc, replies)
+    let text = print_reply(alloc, &reply)?;
+    replies.extend_from_slice(text.as_slice())
 }

@@ -1,97 +1,90 @@
-ghost use Rattle.std.specs.Prelude.{◌≡◌, List, IfOk, OnOk};
-ghost use Rattle.decimal18.specs.Bound.{Bound};
-ghost use Rattle.formula_ast.specs.Trees.{HasExponents};
-ghost use Rattle.formula_ast.specs.Views.{tree_of};
-ghost use Rattle.sheet_rows.specs.Rows.{Given, Formula as FormulaRow};
-ghost use Rattle.type_b.specs.declared.shape.Shape.{Shape};
-ghost use Rattle.type_b.specs.declared.shape.Dof.{Dof};
-ghost use Rattle.sheet_values.specs.Quantities.{Quantity};
-ghost use Rattle.sheet_values.specs.Cells.{Keeps};
-ghost use Rattle.gum_cli.specs.Commands.{Add, Value, IsRegularCommand};
-ghost use Rattle.gum_cli.specs.Views.{command_of};
-ghost use Rattle.gum_cli.specs.Script.{reply_to, sheet_after};
+ghost use Rattle.std.specs.Prelude.{◌≡◌, IsFalse, IfOk};
+ghost use Rattle.answers.specs.Commands.{Command, command_of};
+ghost use Rattle.answers.specs.declared.reply.Reply.{Reply};
+ghost use Rattle.script_lines.specs.Texts.{is_memory_fault};
+ghost use Rattle.edit_session.specs.Machine.{State, step};
+ghost use Rattle.edit_session.specs.Calculable.{CommandHasExponents};
+ghost use Rattle.edit_session.specs.Calls.{edit_reply, history_reply, mark_reply, ask_reply, Does, Gives};
 
-use crate::line::Command;
-use crate::reply::Reply;
-use decimal18::{Dec, OutOfMemory};
+use answers::{Answer, AskFault, Command, HistoryFault, MarkFault, Reply};
+use decimal18::OutOfMemory;
+use edit_session::Session;
 use fixed_interval::Steps;
-use formula_ast::{Formula, Name, names};
-use sheet_rows::Row;
-use sheet_values::{Evaluation, Values};
-use std::alloc::Global;
+use sheet_rows::EditFault;
 use std::sync::ledger::Ledger;
 
-/// Carries out a command and answers it. A refused command changes nothing.
+/// Carries out a command and answers it.
+///
+/// # Errors
+///
+/// [`OutOfMemory`] where there is no memory for it.
 pub(crate) fn serve<L: Ledger>(
-    alloc: Global,
-    values: &mut Values,
-    command: &Command,
+    session: &mut Session,
+    command: Command,
     steps: &mut Steps<L>,
 ) -> Result<Reply, OutOfMemory>
-    requires { IsRegularCommand (command_of command.now) }
-    ensures reply { (qs : List Quantity) → Keeps qs values.old → IfOk result (λ reply. reply ≡ reply_to qs (command_of command.now)) }
-    ensures sheet { (qs : List Quantity) → Keeps qs values.old → OnOk result (Keeps (sheet_after qs (command_of command.now)) values.new) }
+    requires { CommandHasExponents (command_of command) }
+    ensures step { IfOk result (λ reply. step session.old (command_of command) ≡ (session.new, reply)) }
+    ensures said { IfOk result (λ reply. IsFalse (is_memory_fault reply)) }
 {
     match command {
-        Command::Add(row) => match row {
-            Row::Given { name, estimate, .. } => add_input(values, *name, *estimate, steps),
-            Row::Formula { name, formula } => add_formula(alloc, values, *name, formula, steps),
-        },
-        Command::Value(name) => Ok(answer_query(values, *name)),
+        Command::Change(edit) => answer_edit(session.edit(edit)),
+        Command::Undo => answer_step(session.undo()),
+        Command::Redo => answer_step(session.redo()),
+        Command::Mark(name) => answer_mark(session.mark(name)),
+        Command::Restore(name) => answer_mark(session.restore(&name)),
+        Command::Ask(query) => answer_query(session.ask(&query, steps)),
+        Command::AskAt(mark, query) => answer_query(session.ask_at(&mark, &query, steps)),
+    }
+}
+
+// The reply to an edit.
+fn answer_edit(done: Result<(), EditFault>) -> Result<Reply, OutOfMemory>
+    ensures step { (old new : State) (command : Command) → Does old command new (edit_reply done)
+        → IfOk result (λ reply. step old command ≡ (new, reply)) }
+    ensures said { IfOk result (λ reply. IsFalse (is_memory_fault reply)) }
+{
+    match done {
+        Ok(()) => Ok(Reply::Fine),
+        Err(EditFault::OutOfMemory) => Err(OutOfMemory),
+        Err(fault) => Ok(Reply::Edit(fault)),
+    }
+}
+
+// The reply to a step back or forward.
+fn answer_step(done: Result<(), HistoryFault>) -> Result<Reply, OutOfMemory>
+    ensures step { (old new : State) (command : Command) → Does old command new (history_reply done)
+        → IfOk result (λ reply. step old command ≡ (new, reply)) }
+    ensures said { IfOk result (λ reply. IsFalse (is_memory_fault reply)) }
+{
+    match done {
+        Ok(()) => Ok(Reply::Fine),
+        Err(HistoryFault::OutOfMemory) => Err(OutOfMemory),
+        Err(fault) => Ok(Reply::History(fault)),
+    }
+}
+
+// The reply to a mark or to its being restored.
+fn answer_mark(done: Result<(), MarkFault>) -> Result<Reply, OutOfMemory>
+    ensures step { (old new : State) (command : Command) → Does old command new (mark_reply done)
+        → IfOk result (λ reply. step old command ≡ (new, reply)) }
+    ensures said { IfOk result (λ reply. IsFalse (is_memory_fault reply)) }
+{
+    match done {
+        Ok(()) => Ok(Reply::Fine),
+        Err(MarkFault::OutOfMemory) => Err(OutOfMemory),
+        Err(fault) => Ok(Reply::Mark(fault)),
     }
 }
 
 // The reply to a query.
-fn answer_query(values: &Values, name: Name) -> Reply
-    ensures { (qs : List Quantity) → Keeps qs values.now → result ≡ reply_to qs (Value name) }
+fn answer_query(answered: Result<Answer, AskFault>) -> Result<Reply, OutOfMemory>
+    ensures reply { (reply : Reply) → Gives (ask_reply answered) reply → IfOk result (λ given. given ≡ reply) }
+    ensures said { IfOk result (λ reply. IsFalse (is_memory_fault reply)) }
 {
-    let Some(evaluation) = values.get(name) else {
-        return Reply::NoSuchResult(name);
-    };
-    match evaluation {
-        Evaluation::Enclosed(span) => Reply::Value(name, span),
-        Evaluation::Fault(fault, row) => Reply::Faulted(fault, row),
+    match answered {
+        Ok(answer) => Ok(Reply::Said(answer)),
+        Err(AskFault::OutOfMemory) => Err(OutOfMemory),
+        Err(fault) => Ok(Reply::Ask(fault)),
     }
-}
-
-fn add_input<L: Ledger>(
-    values: &mut Values,
-    name: Name,
-    estimate: Dec,
-    steps: &mut Steps<L>,
-) -> Result<Reply, OutOfMemory>
-    ensures reply { (qs : List Quantity) → Keeps qs values.old → (shape : Shape) (dof : Dof)
-        → IfOk result (λ reply. reply ≡ reply_to qs (Add (Given name estimate shape dof))) }
-    ensures sheet { (qs : List Quantity) → Keeps qs values.old → (shape : Shape) (dof : Dof)
-        → OnOk result (Keeps (sheet_after qs (Add (Given name estimate shape dof))) values.new) }
-{
-    if values.get(name).is_some() {
-        return Ok(Reply::Duplicate(name));
-    }
-    values.add_input(name, estimate, steps)?;
-    Ok(Reply::Accepted)
-}
-
-fn add_formula<L: Ledger>(
-    alloc: Global,
-    values: &mut Values,
-    name: Name,
-    formula: &Formula,
-    steps: &mut Steps<L>,
-) -> Result<Reply, OutOfMemory>
-    requires { HasExponents (tree_of formula.now) }
-    ensures reply { (qs : List Quantity) → Keeps qs values.old
-        → IfOk result (λ reply. reply ≡ reply_to qs (Add (FormulaRow name (tree_of formula.now)))) }
-    ensures sheet { (qs : List Quantity) → Keeps qs values.old
-        → OnOk result (Keeps (sheet_after qs (Add (FormulaRow name (tree_of formula.now)))) values.new) }
-{
-    if values.get(name).is_some() {
-        return Ok(Reply::Duplicate(name));
-    }
-    let uses = names(alloc, formula)?;
-    if let Some(unknown) = values.first_unknown(&uses) {
-        return Ok(Reply::Unknown(unknown));
-    }
-    values.add_formula(name, formula, &uses, steps)?;
-    Ok(Reply::Accepted)
 }

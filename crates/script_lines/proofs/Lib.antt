@@ -1,2 +1,3 @@
 pub mod LineParts
 pub mod LineAnswers
+pub mod RegularLines

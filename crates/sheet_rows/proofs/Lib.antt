@@ -6,12 +6,12 @@ pub mod PlainBytes
 pub mod SolidTexts
 pub mod PrintedRows
 pub mod ReadRows
-mod Mentions
-mod Entries
-mod Positions
-mod Verdicts
-mod Conditions
-mod Adding
-mod Setting
-mod Removing
+pub mod Mentions
+pub mod Entries
+pub mod Positions
+pub mod Verdicts
+pub mod Conditions
+pub mod Adding
+pub mod Setting
+pub mod Removing
 pub mod Keeping
