@@ -1,13 +1,11 @@
 -- In a sheet whose values can be worked out each row has a new name and uses quantities of the rows before it.
-use Rattle.std.specs.Prelude.{◌≡◌, ℕ, suc, ◌+◌, ◌<◌, Bool, true, false, ◌&&◌, not, List, [], ◌∷◌, ◌++◌, map, drop, length, Result, Ok, Err, OnOk, refl}
+use Rattle.std.specs.Prelude.{◌≡◌, ℕ, suc, ◌+◌, ◌<◌, ◌≤◌, Bool, true, false, ◌&&◌, ◌||◌, not, bytes_eq, List, [], ◌∷◌, ◌++◌, map, drop, length, Result, Ok, Err, OnOk, refl}
 use Rattle.std.specs.List.{list_all}
-use Rattle.std.proofs.Common.{sym, ◌∙◌, ap, subst, get_or, drop-cons, add-one}
-use Rattle.std.proofs.lemmas.List.{append_assoc, append-nil, map-append}
-use Rattle.std.specs.declared.rc.Rc.{Rc}
+use Rattle.std.proofs.Common.{sym, ◌∙◌, ap, ap₂, subst, get_or, drop-cons, add-one}
+use Rattle.std.proofs.lemmas.List.{drop_all, append_assoc, append-nil, map-append}
 use Rattle.formula_ast.specs.Trees.{Tree}
 use Rattle.sheet_rows.specs.Rows.{Row, Given, Formula, row_of, name_of}
 use Rattle.sheet_rows.specs.Sheets.{has_row, are_named_once, are_known, are_earlier}
-use Rattle.sheet_rows.specs.declared.row.Row.{Row as CodeRow}
 use Rattle.sheet_values.specs.Quantities.{Quantity, is_there}
 use Rattle.sheet_values.specs.Model.{AllHaveExponents}
 use Rattle.sheet_values.specs.Cells.{Cells, Keeps}
@@ -15,7 +13,9 @@ use Rattle.sheet_values.proofs.Adding.{keeps_empty, unknown_same}
 use Rattle.edit_session.specs.Replies.{quantity_of, quantities}
 use Rattle.edit_session.specs.Calculable.{IsCalculable}
 use Rattle.edit_session.specs.Walks.{KnowsUses, IsNext, Follow, IsWalked}
-use Rattle.edit_session.proofs.Names.{and_left, and_right, and_both, or_left, or_right, or_neither, not_true, not_false, named-comm, there-is_row, has_row-added, uses_only}
+use Rattle.sheet_rows.proofs.Conditions.{and_left, and_right, and_both, or_left, or_right, not_true, other_way}
+use Rattle.sheet_rows.proofs.Verdicts.{added_has}
+use Rattle.edit_session.proofs.Names.{there-is_row, uses_only}
 
 -- ---- the rows of a sheet follow each other
 -- no row of these has the name of one of the rows before
@@ -27,11 +27,10 @@ apart_added : (before : List Row) (row : Row) (rest : List Row) → are_apart be
 apart_added before row [] e f = refl
 apart_added before row (next ∷ rest) e f =
     and_both (not (has_row (before ++ row ∷ []) (name_of next))) (are_apart (before ++ row ∷ []) rest)
-    (not_false (has_row (before ++ row ∷ []) (name_of next))
-    (has_row-added before row (name_of next)
-    ∙ or_neither _ _ (not_true (has_row before (name_of next)) (and_left (not (has_row before (name_of next))) (are_apart before rest) e))
-    (named-comm (name_of next) (name_of row) ∙ or_left _ (has_row rest (name_of row)) f)))
-    (apart_added before row rest (and_right (not (has_row before (name_of next))) (are_apart before rest) e) (or_right _ (has_row rest (name_of row)) f))
+    (ap not (added_has before row (name_of next)
+    ∙ ap₂ (λ a b. a || b) (not_true (has_row before (name_of next)) (and_left (not (has_row before (name_of next))) (are_apart before rest) e))
+    (other_way (name_of row) (name_of next) (or_left (bytes_eq (name_of row) (name_of next)) (has_row rest (name_of row)) f))))
+    (apart_added before row rest (and_right (not (has_row before (name_of next))) (are_apart before rest) e) (or_right (bytes_eq (name_of row) (name_of next)) (has_row rest (name_of row)) f))
 
 follow : (before rest : List Row) → are_apart before rest ≡ true → are_named_once rest ≡ true → are_earlier before rest ≡ true
     → AllHaveExponents (quantities rest) → Follow before rest
@@ -67,11 +66,10 @@ pub knows_uses : (before : List Row) (row : Row) (cells : Cells) → Keeps (quan
 knows_uses before (Given name estimate shape dof) cells keeps next = tt
 knows_uses before (Formula name f) cells keeps next = unknown_same (quantities before) cells keeps f ∙ next.known
 
-pub walked_on : {A E : Type 0} (r : Result A E) (sheet rest : List Row) (row : Row) (cells cells' : Cells) → IsWalked sheet (row ∷ rest) cells
-    → ((qs : List Quantity) → Keeps qs cells → is_there qs (name_of row) ≡ false → OnOk r (Keeps (qs ++ quantity_of row ∷ []) cells'))
-    → OnOk r (IsWalked sheet rest cells')
-walked_on (Err e) sheet rest row cells cells' walked add = tt
-walked_on (Ok x) sheet rest row cells cells' walked add = record {
+pub walked_on : (sheet rest : List Row) (row : Row) (cells cells' : Cells) → IsWalked sheet (row ∷ rest) cells
+    → ((qs : List Quantity) → Keeps qs cells → is_there qs (name_of row) ≡ false → Keeps (qs ++ quantity_of row ∷ []) cells')
+    → IsWalked sheet rest cells'
+walked_on sheet rest row cells cells' walked add = record {
   before = walked.before ++ row ∷ [];
   whole = append_assoc walked.before (row ∷ []) rest ∙ walked.whole;
   keeps =
@@ -84,3 +82,12 @@ pub walk_ends : (sheet : List Row) (cells : Cells) → IsWalked sheet [] cells �
 walk_ends sheet cells walked =
     subst (λ rows. Keeps (quantities rows) cells) (sym (append-nil walked.before) ∙ walked.whole) walked.keeps
 
+
+-- ---- the rows that are left
+pub left_next : {A B : Type 0} (f : A → B) (items : List A) (i : ℕ) (x : A) → x ≡ get_or items i x → i < length items
+    → map f (drop i items) ≡ f x ∷ map f (drop (i + 1) items)
+left_next f items i x e h =
+    rw (add-one i, drop-cons items i x h) (ap (λ y. f y ∷ map f (drop (suc i) items)) (sym e))
+
+pub none_left : {A B : Type 0} (f : A → B) (items : List A) (i : ℕ) → length items ≤ i → map f (drop i items) ≡ []
+none_left f items i h = ap (map f) (drop_all i items h)

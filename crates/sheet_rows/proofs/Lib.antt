@@ -1,8 +1,8 @@
 mod Mentions
 mod Entries
 mod Positions
-mod Verdicts
-mod Conditions
-mod Adding
-mod Setting
-mod Removing
+pub mod Verdicts
+pub mod Conditions
+pub mod Adding
+pub mod Setting
+pub mod Removing

@@ -5,4 +5,4 @@ use Rattle.edit_session.specs.Walks.{IsWalked}
 use Rattle.edit_session.proofs.valuing.values_of.Given as goal
 
 abbrev pub invariant-loop-row : goal.invariant-loop-row
-invariant-loop-row l = IsWalked (sheet_of l.sheet) (map (λ row. row_of row.value) (drop l.row-index l.row-items)) l.values
+invariant-loop-row g l = IsWalked (sheet_of l.sheet) (map (λ row. row_of row.value) (drop l.row-index l.row-items)) l.values
