@@ -4,3 +4,5 @@ pub mod Soundness
 pub mod Steps
 pub mod Names
 pub mod Walking
+pub mod Rebuilding
+pub mod ReplyLaws

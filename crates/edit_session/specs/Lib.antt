@@ -4,3 +4,4 @@ pub mod Calculable
 pub mod States
 pub mod Calls
 pub mod Walks
+pub mod Rebuild

@@ -4,8 +4,12 @@
 
 mod answering;
 mod edits;
+mod laws;
 mod session;
 mod valuing;
 
 pub use decimal18::OutOfMemory;
+pub use laws::{
+    names_of_rows_have_replies, rebuilt_sheets_reply_alike, replies_are_sound, sheets_stay_calculable,
+};
 pub use session::Session;
