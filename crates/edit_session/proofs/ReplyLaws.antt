@@ -62,6 +62,7 @@ no_reply name (Some found) e = absurd (true≢false e)
 
 pub unknown_exactly : (sheet : List Row) → IsCalculable sheet → (name : List ℕ)
     → (value_reply name (evaluation_of (quantities sheet) name) ≡ Ask (NoSuchResult name)) ↔ (has_row sheet name ≡ false)
-unknown_exactly sheet h name =
-    (λ e. sym (found-has_row sheet h name) ∙ none_found name (evaluation_of (quantities sheet) name) e,
-    λ e. no_reply name (evaluation_of (quantities sheet) name) (found-has_row sheet h name ∙ e))
+unknown_exactly sheet h name = (
+  λ e. sym (found-has_row sheet h name) ∙ none_found name (evaluation_of (quantities sheet) name) e,
+  λ e. no_reply name (evaluation_of (quantities sheet) name) (found-has_row sheet h name ∙ e),
+)

@@ -35,20 +35,21 @@ apart_added before row (next ∷ rest) e f =
 follow : (before rest : List Row) → are_apart before rest ≡ true → are_named_once rest ≡ true → are_earlier before rest ≡ true
     → AllHaveExponents (quantities rest) → Follow before rest
 follow before [] apart once earlier exponents = tt
-follow before (row ∷ rest) apart once earlier exponents =
-    (record {
-      fresh =
-          there-is_row before (name_of row)
-          ∙ not_true (has_row before (name_of row)) (and_left (not (has_row before (name_of row))) (are_apart before rest) apart);
-      known = uses_only before row (and_left (are_known before row) (are_earlier (before ++ row ∷ []) rest) earlier);
-      exponents = exponents.0;
-    },
-    follow (before ++ row ∷ []) rest
-    (apart_added before row rest (and_right (not (has_row before (name_of row))) (are_apart before rest) apart)
-    (not_true (has_row rest (name_of row)) (and_left (not (has_row rest (name_of row))) (are_named_once rest) once)))
-    (and_right (not (has_row rest (name_of row))) (are_named_once rest) once)
-    (and_right (are_known before row) (are_earlier (before ++ row ∷ []) rest) earlier)
-    exponents.1)
+follow before (row ∷ rest) apart once earlier exponents = (
+  record {
+    fresh =
+        there-is_row before (name_of row)
+        ∙ not_true (has_row before (name_of row)) (and_left (not (has_row before (name_of row))) (are_apart before rest) apart);
+    known = uses_only before row (and_left (are_known before row) (are_earlier (before ++ row ∷ []) rest) earlier);
+    exponents = exponents.0;
+  },
+  follow (before ++ row ∷ []) rest
+      (apart_added before row rest (and_right (not (has_row before (name_of row))) (are_apart before rest) apart)
+      (not_true (has_row rest (name_of row)) (and_left (not (has_row rest (name_of row))) (are_named_once rest) once)))
+      (and_right (not (has_row rest (name_of row))) (are_named_once rest) once)
+      (and_right (are_known before row) (are_earlier (before ++ row ∷ []) rest) earlier)
+      exponents.1,
+)
 
 none_before : (rows : List Row) → are_apart [] rows ≡ true
 none_before [] = refl
@@ -81,7 +82,6 @@ walked_on sheet rest row cells cells' walked add = record {
 pub walk_ends : (sheet : List Row) (cells : Cells) → IsWalked sheet [] cells → Keeps (quantities sheet) cells
 walk_ends sheet cells walked =
     subst (λ rows. Keeps (quantities rows) cells) (sym (append-nil walked.before) ∙ walked.whole) walked.keeps
-
 
 -- ---- the rows that are left
 pub left_next : {A B : Type 0} (f : A → B) (items : List A) (i : ℕ) (x : A) → x ≡ get_or items i x → i < length items

@@ -165,11 +165,7 @@ impl Session {
     /// # Errors
     ///
     /// [`AskFault::NoSuchResult`] exactly where the query names no quantity, but for want of memory.
-    pub fn ask<L: Ledger>(
-        &self,
-        query: &Query,
-        steps: &mut Steps<L>,
-    ) -> Result<Answer, AskFault>
+    pub fn ask<L: Ledger>(&self, query: &Query, steps: &mut Steps<L>) -> Result<Answer, AskFault>
         ensures { Gives (ask_reply result) (reply_to self.now.present query.now) }
     {
         ask_sheet(self.alloc, &self.present, query, steps)
