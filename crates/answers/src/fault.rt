@@ -1,5 +1,6 @@
 use decimal18::OutOfMemory;
 use formula_ast::Name;
+use sheet_rows::RowFault;
 
 /// Why there is no step back or forward.
 #[derive(Clone, Copy, Debug, PartialEq, Eq)]
@@ -37,6 +38,8 @@ pub enum AskFault {
 /// Why a line is no command.
 #[derive(Clone, Copy, Debug, PartialEq, Eq)]
 pub enum LineFault {
+    /// The line gives no row.
+    Row(RowFault),
     /// The word or token at this place, counted from 1, breaks a rule.
     Syntax(usize),
     /// The line has more bytes than a line may have.

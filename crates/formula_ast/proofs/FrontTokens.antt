@@ -8,7 +8,7 @@ use Rattle.std.proofs.lemmas.Bool.Decides.{nat_tests}
 use Rattle.decimal18.specs.Literal.{parsed}
 use Rattle.decimal18.specs.Bound.{Bound}
 use Rattle.formula_ast.specs.Names.{begins_name, is_name}
-use Rattle.formula_ast.specs.Tokens.{is_blank, goes_on_run, literal_len, point_len, exponent_len, len_of, kind_of, is_glued, bound_in, number_kind, name_kind, mark_kind, power_of, tokens}
+use Rattle.formula_ast.specs.Tokens.{is_blank, goes_on_run, literal_len, len_of, kind_of, is_glued, bound_in, number_kind, name_kind, mark_kind, power_of, tokens}
 use Rattle.formula_ast.specs.Fronts.{IsTight, IsSmall, IsPassed, IsFront}
 use Rattle.formula_ast.specs.Reading.{is_open, opens_next}
 use Rattle.formula_ast.specs.declared.token.Kind.{Kind}

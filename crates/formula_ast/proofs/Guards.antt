@@ -1,5 +1,5 @@
 -- A text in parentheses, or not.
-use Rattle.std.proofs.Common.{◌≡◌, ℕ, Bool, true, false, cond, nat_lt, List, [], ◌∷◌, ◌++◌, codes, refl, sym}
+use Rattle.std.proofs.Common.{◌≡◌, ℕ, Bool, true, false, cond, nat_lt, List, [], ◌++◌, codes, refl, sym}
 use Rattle.std.proofs.lemmas.List.{append-nil}
 use Rattle.formula_ast.specs.Trees.{Tree}
 use Rattle.formula_ast.specs.Printing.{binding, guarded}

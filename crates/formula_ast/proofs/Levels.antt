@@ -1,7 +1,7 @@
 -- The code's list of open levels, and minuses taken one by one.
-use Rattle.std.proofs.Common.{◌≡◌, ℕ, zero, suc, ◌-◌, ◌<◌, List, [], ◌∷◌, ◌++◌, refl, ap, sym, ◌∙◌, arith, Option, None, length, length-append}
+use Rattle.std.proofs.Common.{◌≡◌, ℕ, zero, suc, ◌-◌, ◌<◌, List, [], ◌∷◌, ◌++◌, refl, ap, arith, None, length, length-append}
 use Rattle.formula_ast.specs.Trees.{Tree}
-use Rattle.formula_ast.specs.Machine.{Waiting, Parts, trees, negated, finish}
+use Rattle.formula_ast.specs.Machine.{Waiting, trees, negated, finish}
 use Rattle.formula_ast.specs.States.{waiting_of, outside, stage_on, stage_of}
 use Rattle.formula_ast.specs.declared.machine.Level.{Level}
 use Rattle.formula_ast.specs.declared.machine.State.{State}

@@ -1,14 +1,14 @@
 -- The reading of a text from its front: what holds in front of each token, and behind the last.
 use Rattle.std.proofs.Common.{◌≡◌, ℕ, zero, suc, ◌+◌, ◌-◌, ◌<◌, ◌≤◌, ◌==◌, ◌&&◌, Bool, true, false, cond, nat_le, List, [], ◌∷◌, length, drop, refl, sym, ◌∙◌, ap, subst, arith, Option, None, Some, Result, Ok, Err}
+use Rattle.std.proofs.lemmas.Bool.{eqb-true}
 use Rattle.std.proofs.lemmas.Bool.Decides.{nat_tests}
 use Rattle.formula_ast.specs.Trees.{Tree}
-use Rattle.formula_ast.specs.Tokens.{Token, tokens, len_of, kind_of}
+use Rattle.formula_ast.specs.Tokens.{tokens, len_of, kind_of}
 use Rattle.formula_ast.specs.Machine.{Stage, AtOperand, AtAtom, AtEnd, AtExponent, trees, step, finish, first_stage}
 use Rattle.formula_ast.specs.Reading.{most_nodes, or_else, word_fault, is_too_deep, is_node, node_count, refusal, unless_refused, goes_on, syntax_place, opens_next, at_end, reading, reading_of}
 use Rattle.formula_ast.specs.Fronts.{IsTight, IsPassed, IsFront}
 use Rattle.formula_ast.specs.Answers.{Fails}
 use Rattle.formula_ast.proofs.FrontTokens.{tokens_skip}
-use Rattle.formula_ast.specs.declared.token.Sign.{Sign}
 use Rattle.formula_ast.specs.declared.token.Sign.TheVariants.{Plus, Minus, Times, Over}
 use Rattle.formula_ast.specs.declared.token.Kind.{Kind}
 use Rattle.formula_ast.specs.declared.token.Kind.TheVariants.{Number, Name, Joins, Hat, Open, Close, Glued, Wrong}
@@ -69,10 +69,6 @@ goes_on_some : (t : Option (Stage Tree)) (s : Stage Tree) (place : ℕ) (r : Opt
     t ≡ Some s → r ≡ None → goes_on t place r next ≡ next s
 goes_on_some t s place r next e h = rw (e, h) refl
 
-goes_on_none : (t : Option (Stage Tree)) (place : ℕ) (r : Option FormulaFault) (next : Stage Tree → Result Tree FormulaFault) →
-    t ≡ None → goes_on t place r next ≡ Err (fault.Syntax place)
-goes_on_none t place r next e = rw e refl
-
 -- ---- the tokens of a text behind that at its front
 front_tokens : (text behind : List ℕ) (len : ℕ) (kind : Kind) (at : ℕ) → 0 < length text → IsTight text → IsFront text len kind behind →
     tokens text 0 at ≡ record { place = at; kind = kind; len = len } ∷ tokens behind 0 (at + (length text - length behind))
@@ -111,12 +107,6 @@ read_ruled text rest behind s nodes end len kind opens f a some front o r =
     reading_front text rest behind s nodes end len kind a some front
     ∙ goes_on_ruled (step trees s kind) _ _ _ f (sym (r ∙ ap (refusal s nodes (length text - length rest) kind) o))
     (unruled s nodes (length text - length rest) kind _)
-
-pub read_stopped : (text rest behind : List ℕ) (s : Stage Tree) (nodes end len : ℕ) (kind : Kind) →
-    IsAt text rest s nodes end → 0 < length rest → IsFront rest len kind behind →
-    step trees s kind ≡ None → reading_of text ≡ Err (fault.Syntax (syntax_place s (length text - length rest) len kind))
-read_stopped text rest behind s nodes end len kind a some front e =
-    reading_front text rest behind s nodes end len kind a some front ∙ goes_on_none (step trees s kind) _ _ _ e
 
 few_by : (w : Option FormulaFault) (d b : Bool) (x y : FormulaFault) (nodes : ℕ) →
     or_else w (cond d (Some x) (cond (b && nat_le most_nodes nodes) (Some y) None)) ≡ None → nodes ≤ 256 →
@@ -157,8 +147,10 @@ read_first text rest p =
     }
 
 -- behind the last token
-pub read_last : (text : List ℕ) (s : Stage Tree) (nodes end : ℕ) → IsAt text [] s nodes end → reading_of text ≡ at_end (finish trees s) end
-read_last text s nodes end a = sym a.read
+pub read_last : (text rest : List ℕ) (s : Stage Tree) (nodes end : ℕ) (f : Tree) → IsAt text rest s nodes end →
+    length rest ≡ 0 → Some f ≡ finish trees s → reading_of text ≡ Ok f
+read_last text [] s nodes end f a none e = sym a.read ∙ ap (λ read. at_end read end) (sym e)
+read_last text (byte ∷ bytes) s nodes end f a none e = absurd (omega arith)
 
 -- a fault that was told
 pub fails_by : (f : FormulaFault) (r : Result Tree FormulaFault) → r ≡ Err f → Fails f r

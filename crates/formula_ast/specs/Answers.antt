@@ -1,6 +1,5 @@
 -- What the reader answers, beside what a text is by the definitions: any answer may be a want of memory.
-use Rattle.std.specs.Prelude.{◌≡◌, ℕ, Result, Ok, Err}
-use Rattle.decimal18.specs.declared.literal.NumFault.{NumFault}
+use Rattle.std.specs.Prelude.{◌≡◌, Result, Ok, Err}
 use Rattle.formula_ast.specs.Trees.{Tree}
 use Rattle.formula_ast.specs.Views.{tree_of}
 use Rattle.formula_ast.specs.declared.formula.Formula.{Formula}

@@ -7,7 +7,7 @@
 --   atom = number | name | "(" expr ")"
 -- Sums and products group to the left. A formula as it is written keeps its parentheses and the
 -- tokens of its numbers; its rank is the rule that it belongs to.
-use Rattle.std.specs.Prelude.{◌≡◌, ℕ, suc, ◌≤◌, ◌<◌, ℤ, pos, neg_ℤ, Bool, true, false, cond, List, [], ◌∷◌, ◌++◌, Option, None, Some}
+use Rattle.std.specs.Prelude.{◌≡◌, ℕ, ◌≤◌, ◌<◌, ℤ, pos, neg_ℤ, Bool, true, false, cond, List, [], ◌∷◌, ◌++◌, Option, None, Some}
 use Rattle.decimal18.specs.Bound.{Bound}
 use Rattle.formula_ast.specs.Trees.{Tree, Number as Literal, Variable, Opposite, Joined, Raised}
 use Rattle.formula_ast.specs.Tokens.{kinds_in}

@@ -1,6 +1,6 @@
 -- The printed text of a formula: one blank on each side of a binary operator, none at a prefix minus and
 -- `^`, and parentheses only where the formula would be read otherwise.
-use Rattle.std.specs.Prelude.{ℕ, suc, ℤ, unsigned_abs, List, [], ◌∷◌, ◌++◌, nat_lt, if◌then◌else◌, codes, decimal}
+use Rattle.std.specs.Prelude.{ℕ, suc, ℤ, unsigned_abs, List, ◌++◌, nat_lt, if◌then◌else◌, codes, decimal}
 use Rattle.decimal18.specs.Text.{text_of, sign_of}
 use Rattle.formula_ast.specs.Trees.{Tree, Number, Variable, Opposite, Joined, Raised}
 use Rattle.formula_ast.specs.Grammar.{tight}

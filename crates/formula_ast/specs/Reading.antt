@@ -1,11 +1,10 @@
 -- The reading of a text: the formula that it spells, or the first token that breaks a rule, with the
 -- order of the rules at one token, and its place, counted from 0.
-use Rattle.std.specs.Prelude.{ℕ, zero, suc, ◌+◌, ◌&&◌, Bool, true, false, cond, nat_lt, nat_le, List, [], ◌∷◌, Option, None, Some, Result, Ok, Err}
-use Rattle.decimal18.specs.Bound.{Bound}
+use Rattle.std.specs.Prelude.{ℕ, ◌+◌, ◌&&◌, Bool, true, false, cond, nat_le, List, [], ◌∷◌, Option, None, Some, Result, Ok, Err}
 use Rattle.decimal18.specs.declared.literal.NumFault.TheVariants.{NumberRange}
 use Rattle.formula_ast.specs.Trees.{Tree}
 use Rattle.formula_ast.specs.Tokens.{Token, tokens}
-use Rattle.formula_ast.specs.Machine.{Waiting, Stage, AtOperand, AtAtom, AtEnd, AtExponent, first_stage, trees, step, finish}
+use Rattle.formula_ast.specs.Machine.{Stage, AtOperand, AtAtom, AtEnd, AtExponent, first_stage, trees, step, finish}
 use Rattle.formula_ast.specs.declared.token.Sign.{Sign}
 use Rattle.formula_ast.specs.declared.token.Sign.TheVariants.{Plus, Minus, Times, Over}
 use Rattle.formula_ast.specs.declared.token.Kind.{Kind}

@@ -1,5 +1,5 @@
 -- The stage of the reading that the code's state and its list of open levels stand for.
-use Rattle.std.specs.Prelude.{ℕ, List, [], ◌∷◌, ◌++◌, Option, None, Some}
+use Rattle.std.specs.Prelude.{List, [], ◌∷◌, ◌++◌, Option, None, Some}
 use Rattle.formula_ast.specs.Trees.{Tree}
 use Rattle.formula_ast.specs.Machine.{Waiting, Stage, AtOperand, AtAtom, AtEnd, AtExponent}
 use Rattle.formula_ast.specs.Views.{tree_of}

@@ -1,13 +1,12 @@
 -- The tokens of a text. Blanks, which are spaces and tabs, may stand between them. A number is the
 -- longest unsigned literal that stands there, a name the longest run of letters, digits, `_` and points.
-use Rattle.std.specs.Prelude.{ℕ, zero, suc, ◌+◌, ◌-◌, ◌==◌, ◌&&◌, ◌||◌, Bool, true, false, cond, nat_lt, nat_le, min, List, [], ◌∷◌, length, take, drop, Option, None, Some, Result, Ok, Err}
+use Rattle.std.specs.Prelude.{ℕ, zero, suc, ◌+◌, ◌-◌, ◌==◌, ◌&&◌, ◌||◌, Bool, false, cond, nat_le, min, List, [], ◌∷◌, take, drop, Option, None, Some, Result, Ok, Err}
 use Rattle.std.specs.List.{prefix_len}
 use Rattle.std.specs.Char.{is_ascii_digit}
 use Rattle.decimal18.specs.Bound.{Bound}
 use Rattle.decimal18.specs.Literal.{is_exponent_letter, parsed}
 use Rattle.decimal18.specs.declared.literal.NumFault.{NumFault}
 use Rattle.formula_ast.specs.Names.{begins_name, goes_on_name, is_name}
-use Rattle.formula_ast.specs.declared.token.Sign.{Sign}
 use Rattle.formula_ast.specs.declared.token.Sign.TheVariants.{Plus, Minus, Times, Over}
 use Rattle.formula_ast.specs.declared.token.Kind.{Kind}
 use Rattle.formula_ast.specs.declared.token.Kind.TheVariants.{Number, Name, Joins, Hat, Open, Close, Glued, Wrong}

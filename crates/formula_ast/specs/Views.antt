@@ -1,5 +1,4 @@
 -- What the code's formulas are: their trees.
-use Rattle.std.specs.Prelude.{ℕ}
 use Rattle.formula_ast.specs.Trees.{Tree, Number, Variable, Opposite, Joined, Raised}
 use Rattle.formula_ast.specs.declared.token.Sign.TheVariants.{Plus, Minus, Times, Over}
 use Rattle.formula_ast.specs.declared.formula.Formula.{Formula}

@@ -69,7 +69,7 @@ pub fn number_tokens_are_longest_literals()
 {}
 
 /// What some texts are read as, and how some formulas are printed.
-pub fn worked_readings()
+pub fn worked_formulas()
     ensures sign_of_power { reading_of (codes "-a^2") ≡ Ok (Opposite (Raised (Variable (codes "a")) (pos 2))) }
     ensures left_grouping { reading_of (codes "t.a-b/2*-c_1") ≡ Ok (Joined Minus (Variable (codes "t.a"))
         (Joined Times (Joined Over (Variable (codes "b")) (Literal (scaled (pos 2) 0))) (Opposite (Variable (codes "c_1"))))) }

@@ -13,6 +13,8 @@ mod print;
 mod read;
 mod rows;
 mod rules;
+#[cfg(test)]
+mod tests;
 mod token;
 mod uses;
 
@@ -22,7 +24,7 @@ pub use formula::Formula;
 pub use laws::{
     number_tokens_are_longest_literals, printed_text_is_read_again, reading_is_the_grammars,
     stages_are_the_prefixes_of_the_grammar, syntax_is_placed_at_the_first_wrong_token,
-    what_is_read_has_exponents, what_spells_within_limits_is_read, worked_readings,
+    what_is_read_has_exponents, what_spells_within_limits_is_read, worked_formulas,
 };
 pub use lexer::{blanks_len, is_blank};
 pub use name::{Name, is_plain_name};
@@ -30,5 +32,5 @@ pub use name_list::NameList;
 pub use parting::cut;
 pub use print::print_formula;
 pub use read::read_formula;
-pub use rows::{worked_formulas, worked_prints, worked_refusals};
+pub use rows::{worked_prints, worked_readings, worked_refusals};
 pub use uses::names;

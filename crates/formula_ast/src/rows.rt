@@ -10,7 +10,7 @@ ghost use Rattle.formula_ast.specs.declared.token.Sign.TheVariants.{Plus, Minus,
 ghost use Rattle.formula_ast.specs.declared.fault.FormulaFault.TheVariants.{Syntax, UnknownFunction, Number, BadPower};
 
 /// Texts that are formulas, and what they mean.
-pub fn worked_formulas()
+pub fn worked_readings()
     ensures third { reading_of (codes "1/3")
         ≡ Ok (Joined Over (Literal (scaled (pos 1) 0)) (Literal (scaled (pos 3) 0))) }
     ensures product { reading_of (codes "-(a+b)*c")

@@ -1,7 +1,3 @@
-pub mod ReadingWords
-pub mod ReadingNumbers
-pub mod ReadingForms
-pub mod Kept
-pub mod Sound
-pub mod Standing
 pub mod Serving
+pub mod Reading
+pub mod Sound

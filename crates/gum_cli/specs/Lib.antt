@@ -1,8 +1,5 @@
-pub mod Padded
-pub mod Words
-pub mod Formula
-pub mod Sums
-pub mod Sheet
+pub mod Lines
+pub mod Commands
+pub mod Views
 pub mod Script
-pub mod Cells
 pub mod Run

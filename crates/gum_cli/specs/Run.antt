@@ -4,7 +4,7 @@ use Rattle.std.specs.Io.KnownBytes.{IsAtEnd}
 use Rattle.std.specs.declared.alloc.Global.{Global}
 use Rattle.byte_io.specs.Source.{Took}
 use Rattle.byte_io.specs.Sink.{Wrote, WrotePart}
-use Rattle.gum_cli.specs.Words.{lines_of}
+use Rattle.gum_cli.specs.Lines.{lines_of}
 use Rattle.gum_cli.specs.Script.{out, early, AreSound}
 
 -- the most bytes of a script

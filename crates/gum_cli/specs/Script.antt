@@ -1,25 +1,38 @@
 -- What a script means: its lines, their replies, and the bytes that are written.
-use Rattle.std.specs.Prelude.{◌≡◌, ℕ, Bool, true, false, not, if◌then◌else◌, List, [], ◌∷◌, ◌++◌, find, Option, Some, None, codes, decimal}
-use Rattle.decimal18.specs.Bound.{Bound}
+use Rattle.std.specs.Prelude.{◌≡◌, ℕ, Bool, true, false, if◌then◌else◌, List, [], ◌∷◌, ◌++◌, Option, Some, None, codes, decimal}
 use Rattle.decimal18.specs.Text.{text_of}
-use Rattle.fixed_interval.specs.Interval.{Interval}
 use Rattle.fixed_interval.specs.declared.faults.ArithFault.{ArithFault}
 use Rattle.fixed_interval.specs.declared.faults.ArithFault.TheVariants.{ZeroDivisor, Overflow}
-use Rattle.formula_ast.specs.Trees.{Tree, uses}
-use Rattle.gum_cli.specs.Words.{lines_of, whole_lines_of}
-use Rattle.gum_cli.specs.Commands.{Command, Given, Let, Value as Query, Line, Blank, Refused as RefusedLine, Carried, read_line}
-use Rattle.gum_cli.specs.Sheet.{Row, Input, Function, has_row, evaluation_of, HasValueIn}
-use Rattle.gum_cli.specs.declared.fault.LineFault.{LineFault}
-use Rattle.gum_cli.specs.declared.fault.LineFault.TheVariants.{Syntax, NotNumber, NumberRange, UnknownFunction, BadPower, TooDeep, TooManyNodes, Negative, NotBuilt}
-use Rattle.gum_cli.specs.declared.reply.Evaluation.{Evaluation}
-use Rattle.gum_cli.specs.declared.reply.Evaluation.TheVariants.{Enclosed, Fault}
+use Rattle.sheet_rows.specs.Rows.{Row, Given, Formula}
+use Rattle.sheet_rows.specs.declared.fault.RowFault.{RowFault}
+use Rattle.sheet_rows.specs.declared.fault.RowFault.TheVariants.{Syntax, NotNumber, NumberRange, UnknownFunction, BadPower, TooDeep, TooManyNodes, Negative, NotBuilt, OutOfMemory}
+use Rattle.sheet_values.specs.Quantities.{Quantity, Input, Function, is_there, first_unknown}
+use Rattle.sheet_values.specs.Evaluations.{evaluation_of}
+use Rattle.sheet_values.specs.Model.{HasValueIn}
+use Rattle.sheet_values.specs.declared.evaluation.Evaluation.{Evaluation}
+use Rattle.sheet_values.specs.declared.evaluation.Evaluation.TheVariants.{Enclosed, Fault}
+use Rattle.gum_cli.specs.Lines.{lines_of, whole_lines_of}
+use Rattle.gum_cli.specs.Commands.{Command, Add, Value as Query, Line, Blank, Refused as RefusedLine, Carried, read_line}
 use Rattle.gum_cli.specs.declared.reply.Reply.{Reply}
 use Rattle.gum_cli.specs.declared.reply.Reply.TheVariants.{Accepted, Refused, Duplicate, Unknown, NoSuchResult, Value, Faulted}
 
+-- the sheet, by its quantities
+abbrev pub Sheet : Type 0
+Sheet = List Quantity
+
 -- ---- the reply to a command
--- the first name in the formula that no row has
-abbrev pub first_unknown : List Row → Tree → Option (List ℕ)
-first_unknown sheet f = find (λ name. not (has_row sheet name)) (uses f)
+abbrev pub name_of : Row → List ℕ
+name_of (Given name estimate shape dof) = name
+name_of (Formula name f) = name
+
+abbrev pub quantity_of : Row → Quantity
+quantity_of (Given name estimate shape dof) = record { name = name; body = Input estimate }
+quantity_of (Formula name f) = record { name = name; body = Function f }
+
+-- the first name in a row that is no quantity's
+abbrev pub unknown_in : Sheet → Row → Option (List ℕ)
+unknown_in sheet (Given name estimate shape dof) = None
+unknown_in sheet (Formula name f) = first_unknown sheet f
 
 abbrev pub unless_unknown : Option (List ℕ) → Reply
 unless_unknown None = Accepted
@@ -30,17 +43,11 @@ evaluated name (Some (Enclosed s)) = Value name s
 evaluated name (Some (Fault fault row)) = Faulted fault row
 evaluated name None = NoSuchResult name
 
-abbrev pub reply_to : List Row → Command → Reply
-reply_to sheet (Given name estimate uncertainty) = if has_row sheet name then Duplicate name else Accepted
-reply_to sheet (Let name f) = if has_row sheet name then Duplicate name else unless_unknown (first_unknown sheet f)
-reply_to sheet (Query name) = if has_row sheet name then evaluated name (evaluation_of sheet name) else NoSuchResult name
+abbrev pub reply_to : Sheet → Command → Reply
+reply_to sheet (Add row) = if is_there sheet (name_of row) then Duplicate (name_of row) else unless_unknown (unknown_in sheet row)
+reply_to sheet (Query name) = evaluated name (evaluation_of sheet name)
 
--- ---- the sheet after a command: a row is added exactly where the command is accepted
-abbrev pub row_of : Command → List Row
-row_of (Given name estimate uncertainty) = record { name = name; body = Input estimate uncertainty } ∷ []
-row_of (Let name f) = record { name = name; body = Function f } ∷ []
-row_of (Query name) = []
-
+-- ---- the sheet after a command: a row is added exactly where it is accepted
 abbrev pub is_accepted : Reply → Bool
 is_accepted Accepted = true
 is_accepted (Refused fault) = false
@@ -50,21 +57,22 @@ is_accepted (NoSuchResult name) = false
 is_accepted (Value name s) = false
 is_accepted (Faulted fault row) = false
 
-abbrev pub sheet_after : List Row → Command → List Row
-sheet_after sheet command = if is_accepted (reply_to sheet command) then sheet ++ row_of command else sheet
+abbrev pub sheet_after : Sheet → Command → Sheet
+sheet_after sheet (Add row) = if is_accepted (reply_to sheet (Add row)) then sheet ++ quantity_of row ∷ [] else sheet
+sheet_after sheet (Query name) = sheet
 
 -- ---- the replies to lines, in order; a line without words has none
-abbrev pub replies_of : List Row → Line → List Reply
+abbrev pub replies_of : Sheet → Line → List Reply
 replies_of sheet Blank = []
 replies_of sheet (RefusedLine fault) = Refused fault ∷ []
 replies_of sheet (Carried command) = reply_to sheet command ∷ []
 
-abbrev pub sheet_behind : List Row → Line → List Row
+abbrev pub sheet_behind : Sheet → Line → Sheet
 sheet_behind sheet Blank = sheet
 sheet_behind sheet (RefusedLine fault) = sheet
 sheet_behind sheet (Carried command) = sheet_after sheet command
 
-abbrev pub replies_to : List Row → List (List ℕ) → List Reply
+abbrev pub replies_to : Sheet → List (List ℕ) → List Reply
 replies_to sheet [] = []
 replies_to sheet (line ∷ lines) =
     replies_of sheet (read_line line) ++ replies_to (sheet_behind sheet (read_line line)) lines
@@ -73,7 +81,7 @@ replies_to sheet (line ∷ lines) =
 abbrev pub placed : List ℕ → ℕ → List ℕ
 placed rule place = codes "refused " ++ rule ++ codes " " ++ decimal place ++ codes "\n"
 
-abbrev pub text_of_fault : LineFault → List ℕ
+abbrev pub text_of_fault : RowFault → List ℕ
 text_of_fault (Syntax at) = placed (codes "syntax") at
 text_of_fault (NotNumber at) = placed (codes "not_number") at
 text_of_fault (NumberRange at) = placed (codes "number_range") at
@@ -83,6 +91,7 @@ text_of_fault (TooDeep at) = placed (codes "too_deep") at
 text_of_fault (TooManyNodes at) = placed (codes "too_many_nodes") at
 text_of_fault Negative = codes "refused negative\n"
 text_of_fault NotBuilt = codes "refused not_built\n"
+text_of_fault OutOfMemory = []
 
 abbrev pub arithmetic_text : ArithFault → List ℕ
 arithmetic_text ZeroDivisor = codes "fault zero_divisor "
@@ -112,7 +121,7 @@ early script = text_of_replies (replies_to [] (whole_lines_of script))
 
 -- ---- soundness
 -- what a reply says of the exact value
-abbrev pub IsSound : List Row → Reply → Type 0
+abbrev pub IsSound : Sheet → Reply → Type 0
 IsSound sheet Accepted = Unit {0}
 IsSound sheet (Refused fault) = Unit {0}
 IsSound sheet (Duplicate name) = Unit {0}
@@ -121,11 +130,11 @@ IsSound sheet (NoSuchResult name) = Unit {0}
 IsSound sheet (Value name s) = HasValueIn sheet name s
 IsSound sheet (Faulted fault row) = Unit {0}
 
-abbrev pub AllSound : List Row → List Reply → Type 0
+abbrev pub AllSound : Sheet → List Reply → Type 0
 AllSound sheet [] = Unit {0}
 AllSound sheet (reply ∷ replies) = IsSound sheet reply × AllSound sheet replies
 
 -- each reply is sound for the sheet that stands at its line
-abbrev pub AreSound : List Row → List (List ℕ) → Type 0
+abbrev pub AreSound : Sheet → List (List ℕ) → Type 0
 AreSound sheet [] = Unit {0}
 AreSound sheet (line ∷ lines) = AllSound sheet (replies_of sheet (read_line line)) × AreSound (sheet_behind sheet (read_line line)) lines

@@ -2,18 +2,15 @@
 //! each to standard output.
 #![tactic(auto)]
 
-mod command;
-mod name;
+mod line;
 mod read;
 mod reply;
 mod respond;
 mod rows;
 mod run;
 mod serve;
-mod sheet;
 #[cfg(test)]
 mod tests;
-mod words;
 
 ghost use Rattle.std.specs.Prelude.{◌≡◌};
 

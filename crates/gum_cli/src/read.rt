@@ -1,282 +1,146 @@
-//! A line is read into the command that it is.
+//! A line is read into what it is.
 
-ghost use Rattle.std.specs.Prelude.{◌≡◌, ◌^◌, ◌<◌, ◌≤◌, [], IsTrue, IfOk, IfSome, length, option_map, option_and_then};
-ghost use Rattle.std.specs.Option.{option_map_or};
-ghost use Rattle.std.specs.List.{list_all};
-ghost use Rattle.std.specs.Char.{is_ascii_digit};
-ghost use Rattle.std.specs.Str.Parse.{digits_value};
-ghost use Rattle.gum_cli.specs.Words.{words_of, is_whole_number, number_of};
-ghost use Rattle.gum_cli.specs.Script.{atom_of, onto, atoms_of, sum_of, given_of, let_of, query_of, command_of};
+ghost use Rattle.std.specs.Prelude.{◌≡◌, ◌≤◌, IfOk, length};
+ghost use Rattle.line_words.specs.Words.{words_from};
+ghost use Rattle.sheet_rows.specs.Reading.{row_read};
+ghost use Rattle.gum_cli.specs.Commands.{is_other_edit, is_other_query, is_other_result, is_other_command, alone, query_of, row_line, read_line, IsRegularLine};
+ghost use Rattle.gum_cli.specs.Views.{line_of};
 
-use crate::command::{Atom, Command, Sum};
-use crate::name::read_name;
-use crate::words::cut;
-use decimal18::{Dec, OutOfMemory};
+use crate::line::{Command, Line};
+use decimal18::OutOfMemory;
+use formula_ast::Name;
+use line_words::{next_word, written_part};
+use sheet_rows::{RowFault, read_row};
 use std::alloc::Global;
 
-const GIVEN: &[u8] = b"given";
-
-const LET: &[u8] = b"let";
-
+/// The query of a value.
 const VALUE: &[u8] = b"value";
 
-const STD: &[u8] = b"std";
+// What begins a command of the language that this version does not have.
+const SET: &[u8] = b"set";
 
-const EQUALS: &[u8] = b"=";
+const REMOVE: &[u8] = b"remove";
 
-const PLUS: &[u8] = b"+";
+const UNDO: &[u8] = b"undo";
 
-/// The most digits of a number.
-const DIGIT_LIMIT: usize = 18;
+const REDO: &[u8] = b"redo";
 
-/// Whether each byte is a digit.
-fn all_digits(word: &[u8]) -> bool
-    ensures { result ≡ list_all is_ascii_digit word.now }
+const MARK: &[u8] = b"mark";
+
+const RESTORE: &[u8] = b"restore";
+
+/// Whether the word begins an edit or a step that this version does not have.
+fn is_other_edit(word: &[u8]) -> bool
+    ensures { result ≡ is_other_edit word.now }
 {
-    word.iter().all(|byte| byte.is_ascii_digit())
+    word == SET || word == REMOVE || word == UNDO || word == REDO || word == MARK || word == RESTORE
 }
 
-/// Whether the word is a whole number of at most `DIGIT_LIMIT` digits.
-fn is_whole_number(word: &[u8]) -> bool
-    ensures { result ≡ is_whole_number word.now }
+const AT: &[u8] = b"at";
+
+const VAR: &[u8] = b"var";
+
+const COV: &[u8] = b"cov";
+
+const R: &[u8] = b"r";
+
+const SENS: &[u8] = b"sens";
+
+const DUMP: &[u8] = b"dump";
+
+/// Whether the word begins a query that this version does not have.
+fn is_other_query(word: &[u8]) -> bool
+    ensures { result ≡ is_other_query word.now }
 {
-    all_digits(word) && !word.is_empty() && word.len() <= DIGIT_LIMIT
+    word == AT || word == VAR || word == COV || word == R || word == SENS || word == DUMP
 }
 
-/// The number that the digits write.
-fn value_of_digits(digits: &[u8]) -> u64
-    requires digits { IsTrue (list_all is_ascii_digit digits.now) }
-    requires few { length digits.now ≤ 18 }
-    ensures value { result ≡ digits_value 10 digits.now }
-    ensures below { result < 10 ^ 18 }
+const DOF: &[u8] = b"dof";
+
+const REPORT: &[u8] = b"report";
+
+const EXPANDED: &[u8] = b"expanded";
+
+const DECIDE: &[u8] = b"decide";
+
+const BUDGET: &[u8] = b"budget";
+
+/// Whether the word begins a query for a result that this version does not have.
+fn is_other_result(word: &[u8]) -> bool
+    ensures { result ≡ is_other_result word.now }
 {
-    let mut value = 0;
-    for digit in digits {
-        value = value * 10 + (*digit - b'0') as u64;
+    word == DOF || word == REPORT || word == EXPANDED || word == DECIDE || word == BUDGET
+}
+
+/// Whether the word begins a command that this version does not have.
+fn is_other_command(word: &[u8]) -> bool
+    ensures { result ≡ is_other_command word.now }
+{
+    is_other_edit(word) || is_other_query(word) || is_other_result(word)
+}
+
+/// The query of the value of `name`, where no word stands behind it in the line, from the place `at` on.
+fn alone(name: Name, line: &[u8], at: usize) -> Line
+    requires { at ≤ length line.now }
+    ensures { line_of result ≡ alone name (words_from line.now at) }
+{
+    match next_word(line, at) {
+        Some((place, _)) => Line::Refused(RowFault::Syntax(place + 1)),
+        None => Line::Carried(Command::Value(name)),
     }
-    value
 }
 
-/// The number that the word is, where it has 1 to `DIGIT_LIMIT` digits and nothing else.
-fn read_number(word: &[u8]) -> Option<Dec>
-    ensures { result ≡ number_of word.now }
+/// What stands behind the word `value`, from the place `at` on.
+fn read_query(line: &[u8], at: usize) -> Line
+    requires { at ≤ length line.now }
+    ensures { line_of result ≡ query_of (length line.now) (words_from line.now at) }
 {
-    if !is_whole_number(word) {
-        return None;
-    }
-    Dec::new(value_of_digits(word) as i64, 0)
-}
-
-/// The operand that the word is.
-fn read_atom(word: &[u8]) -> Option<Atom>
-    ensures { result ≡ atom_of word.now }
-{
-    match read_name(word) {
-        Some(name) => Some(Atom::Name(name)),
-        None => read_number(word).map(Atom::Number),
-    }
-}
-
-/// The operand behind the `+` with which the text begins, and the text behind that operand, where
-/// there is more.
-fn read_operand(text: &[u8]) -> Option<(Atom, Option<&[u8]>)>
-    ensures operands { atoms_of (words_of text.now) ≡ option_and_then (λ read.
-        onto (Some read.0) (atoms_of (option_map_or (λ rest. words_of rest.now) read.1 []))) result }
-    ensures shorter { IfSome result (λ read.
-        option_map_or (λ rest. length rest.now) read.1 0 < length text.now) }
-{
-    let (plus, behind) = cut(text, b' ');
-    let Some(behind) = behind else {
-        return None;
+    let Some((place, word)) = next_word(line, at) else {
+        return Line::Refused(RowFault::Syntax(line.len() + 1));
     };
-    let (word, rest) = cut(behind, b' ');
-    if plus != PLUS {
-        return None;
+    if let Some(name) = Name::plain(word) {
+        return alone(name, line, place + word.len());
     }
-    let Some(atom) = read_atom(word) else {
-        return None;
-    };
-    Some((atom, rest))
+    match Name::new(word) {
+        Some(_) => Line::Refused(RowFault::NotBuilt),
+        None => Line::Refused(RowFault::Syntax(place + 1)),
+    }
 }
 
-/// The operands in `text`, each behind a `+`; none where there is no text.
-#[tactic(auto, using(crate::proofs::ReadingForms::operand_steps))]
-fn read_operands(alloc: Global, text: Option<&[u8]>) -> Result<Option<Vec<Atom>>, OutOfMemory>
-    ensures { IfOk result (λ atoms. option_map (λ list. list.items) atoms
-        ≡ atoms_of (option_map_or (λ rest. words_of rest.now) text.entry [])) }
+/// The row that the line adds, or why it adds none.
+///
+/// # Errors
+///
+/// [`OutOfMemory`] where there is no memory for the row.
+fn read_addition(alloc: Global, line: &[u8]) -> Result<Line, OutOfMemory>
+    ensures line { IfOk result (λ l. line_of l ≡ row_line (row_read line.now 0)) }
+    ensures regular { IfOk result (λ l. IsRegularLine (line_of l)) }
 {
-    let mut atoms = Vec::new(alloc);
-    let mut rest = text;
-    while let Some(behind) = rest {
-        let Some((atom, after)) = read_operand(behind) else {
-            return Ok(None);
-        };
-        atoms.push(atom)?;
-        rest = after;
+    match read_row(alloc, line, 0) {
+        Ok(row) => Ok(Line::Carried(Command::Add(row))),
+        Err(RowFault::OutOfMemory) => Err(OutOfMemory),
+        Err(fault) => Ok(Line::Refused(fault)),
     }
-    Ok(Some(atoms))
 }
 
-/// The sum that the words are: operands with a `+` between each two.
-fn read_sum(alloc: Global, words: &[u8]) -> Result<Option<Sum>, OutOfMemory>
-    ensures { IfOk result (λ sum. sum ≡ sum_of (words_of words.now)) }
+/// What the line, without its line feed, is.
+///
+/// # Errors
+///
+/// [`OutOfMemory`] where there is no memory for a row.
+pub(crate) fn read_line(alloc: Global, line: &[u8]) -> Result<Line, OutOfMemory>
+    ensures line { IfOk result (λ l. line_of l ≡ read_line line.now) }
+    ensures regular { IfOk result (λ l. IsRegularLine (line_of l)) }
 {
-    let (word, rest) = cut(words, b' ');
-    let Some(first) = read_atom(word) else {
-        return Ok(None);
+    let text = written_part(line);
+    let Some((place, word)) = next_word(text, 0) else {
+        return Ok(Line::Blank);
     };
-    let Some(rest) = read_operands(alloc, rest)? else {
-        return Ok(None);
-    };
-    Ok(Some(Sum { first, rest }))
-}
-
-/// `NAME ESTIMATE std UNCERTAINTY`.
-fn read_given(text: Option<&[u8]>) -> Option<Command>
-    ensures { result ≡ given_of (option_map_or (λ rest. words_of rest.now) text.entry []) }
-{
-    let (name, text) = cut(text?, b' ');
-    let (estimate, text) = cut(text?, b' ');
-    let (shape, text) = cut(text?, b' ');
-    let (uncertainty, text) = cut(text?, b' ');
-    if text.is_some() {
-        return None;
+    if word == VALUE {
+        return Ok(read_query(text, place + word.len()));
     }
-    let name = read_name(name)?;
-    if shape != STD {
-        return None;
+    if is_other_command(word) {
+        return Ok(Line::Refused(RowFault::NotBuilt));
     }
-    let estimate = read_number(estimate)?;
-    let uncertainty = read_number(uncertainty)?;
-    Some(Command::Given {
-        name,
-        estimate,
-        uncertainty,
-    })
-}
-
-/// `NAME = OPERAND + OPERAND ..`.
-fn read_let(alloc: Global, text: Option<&[u8]>) -> Result<Option<Command>, OutOfMemory>
-    ensures { IfOk result (λ command.
-        command ≡ let_of (option_map_or (λ rest. words_of rest.now) text.entry [])) }
-{
-    let Some(text) = text else {
-        return Ok(None);
-    };
-    let (name, text) = cut(text, b' ');
-    let Some(text) = text else {
-        return Ok(None);
-    };
-    let (equals, text) = cut(text, b' ');
-    let Some(name) = read_name(name) else {
-        return Ok(None);
-    };
-    if equals != EQUALS {
-        return Ok(None);
-    }
-    let Some(text) = text else {
-        return Ok(None);
-    };
-    let Some(sum) = read_sum(alloc, text)? else {
-        return Ok(None);
-    };
-    Ok(Some(Command::Let { name, sum }))
-}
-
-/// `NAME`.
-fn read_value(text: Option<&[u8]>) -> Option<Command>
-    ensures { result ≡ query_of (option_map_or (λ rest. words_of rest.now) text.entry []) }
-{
-    let (name, text) = cut(text?, b' ');
-    if text.is_some() {
-        return None;
-    }
-    let name = read_name(name)?;
-    Some(Command::Value(name))
-}
-
-/// The command that the line, without its line feed, is, and `None` where it has none of the three
-/// forms. It fails only where there is no memory for the operands of a sum.
-pub(crate) fn read_command(alloc: Global, line: &[u8]) -> Result<Option<Command>, OutOfMemory>
-    ensures { IfOk result (λ command. command ≡ command_of line.now) }
-{
-    let (verb, text) = cut(line, b' ');
-    if verb == GIVEN {
-        return Ok(read_given(text));
-    }
-    if verb == LET {
-        return read_let(alloc, text);
-    }
-    if verb == VALUE {
-        return Ok(read_value(text));
-    }
-    Ok(None)
-}
-
-#[cfg(test)]
-mod tests {
-    use super::*;
-    use std::test::Fail;
-
-    #[test]
-    fn reads_an_input(rt: HostRuntime) -> Result<(), Fail> {
-        let Some(command) = read_command(rt.alloc(), b"given X 5 std 012")? else {
-            panic!(rt; "no command");
-        };
-        let Command::Given {
-            name,
-            estimate,
-            uncertainty,
-        } = command
-        else {
-            panic!(rt; "no input");
-        };
-        assert!(rt; name.as_bytes() == b"X".as_slice());
-        assert_eq!(rt; estimate.coefficient(), 5);
-        assert_eq!(rt; uncertainty.coefficient(), 12);
-        Ok(())
-    }
-
-    #[test]
-    fn reads_a_formula(rt: HostRuntime) -> Result<(), Fail> {
-        let Some(command) = read_command(rt.alloc(), b"let _a1 = X + 999999999999999999")? else {
-            panic!(rt; "no command");
-        };
-        let Command::Let { name, sum } = command else {
-            panic!(rt; "no formula");
-        };
-        assert!(rt; name.as_bytes() == b"_a1".as_slice());
-        assert!(rt; matches!(sum.first, Atom::Name(_)));
-        assert_eq!(rt; sum.rest.len(), 1);
-        Ok(())
-    }
-
-    #[test]
-    fn reads_a_query(rt: HostRuntime) -> Result<(), Fail> {
-        let Some(command) = read_command(rt.alloc(), b"value abcdefghijklmnopqrstuvwx")? else {
-            panic!(rt; "no command");
-        };
-        let Command::Value(name) = command else {
-            panic!(rt; "no query");
-        };
-        assert_eq!(rt; name.as_bytes().len(), 24);
-        Ok(())
-    }
-
-    fn is_refused(rt: &HostRuntime, line: &[u8]) -> Result<bool, OutOfMemory> {
-        Ok(read_command(rt.alloc(), line)?.is_none())
-    }
-
-    #[test]
-    fn refuses_other_lines(rt: HostRuntime) -> Result<(), Fail> {
-        assert!(rt; is_refused(&rt, b"")?);
-        assert!(rt; is_refused(&rt, b"given X 1234567890123456789 std 1")?);
-        assert!(rt; is_refused(&rt, b"given X  5 std 1")?);
-        assert!(rt; is_refused(&rt, b"given X 5 std 1 ")?);
-        assert!(rt; is_refused(&rt, b"value abcdefghijklmnopqrstuvwxy")?);
-        assert!(rt; is_refused(&rt, b"value X\r")?);
-        assert!(rt; is_refused(&rt, b"let A = X +")?);
-        assert!(rt; is_refused(&rt, b"let A = ")?);
-        Ok(())
-    }
+    read_addition(alloc, line)
 }

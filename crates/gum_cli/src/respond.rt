@@ -1,15 +1,17 @@
 ghost use Rattle.std.specs.Prelude.{◌≡◌, ◌++◌, ◌∷◌, List, ℕ, IfOk, OnOk};
-ghost use Rattle.gum_cli.specs.Sheet.{Row};
-ghost use Rattle.gum_cli.specs.Script.{command_of, sheet_after, replies_to, text_of_replies, out};
-ghost use Rattle.gum_cli.specs.Cells.{Keeps};
+ghost use Rattle.sheet_values.specs.Quantities.{Quantity};
+ghost use Rattle.sheet_values.specs.Cells.{Keeps};
+ghost use Rattle.gum_cli.specs.Commands.{read_line};
+ghost use Rattle.gum_cli.specs.Script.{sheet_behind, replies_to, text_of_replies, out};
 
-use crate::read::read_command;
+use crate::line::Line;
+use crate::read::read_line;
 use crate::reply::Reply;
 use crate::serve::serve;
-use crate::sheet::Sheet;
-use crate::words::cut;
 use decimal18::OutOfMemory;
 use fixed_interval::Steps;
+use formula_ast::cut;
+use sheet_values::Values;
 use std::alloc::Global;
 use std::sync::ledger::Ledger;
 
@@ -21,12 +23,12 @@ pub fn respond<L: Ledger>(
 ) -> Result<Vec<u8>, OutOfMemory>
     ensures { IfOk result (λ replies. replies.items ≡ out script.now) }
 {
-    let mut sheet = Sheet::new(alloc);
+    let mut values = Values::new(alloc);
     let mut replies = Vec::new(alloc);
     let mut rest = script;
     'lines: loop {
         let (line, behind) = cut(rest, b'\n');
-        answer_line(alloc, line, &mut sheet, &mut replies, steps)?;
+        answer_line(alloc, line, &mut values, &mut replies, steps)?;
         let Some(behind) = behind else {
             return Ok(replies);
         };
@@ -34,26 +36,24 @@ pub fn respond<L: Ledger>(
     }
 }
 
-// Answers one line, whichever lines come behind it. A line without bytes has no reply.
+// Answers one line, whichever lines come behind it. A line without words has no reply.
 fn answer_line<L: Ledger>(
     alloc: Global,
     line: &[u8],
-    sheet: &mut Sheet,
+    values: &mut Values,
     replies: &mut Vec<u8>,
     steps: &mut Steps<L>,
 ) -> Result<(), OutOfMemory>
-    ensures sheet { (rows : List Row) → Keeps rows sheet.old
-        → OnOk result (Keeps (sheet_after rows (command_of line.now)) sheet.new) }
-    ensures replies { (rows : List Row) → Keeps rows sheet.old → (lines : List (List ℕ)) → OnOk result
-        (replies.new.items ++ text_of_replies (replies_to (sheet_after rows (command_of line.now)) lines)
-        ≡ replies.old.items ++ text_of_replies (replies_to rows (line.now ∷ lines))) }
+    ensures sheet { (qs : List Quantity) → Keeps qs values.old
+        → OnOk result (Keeps (sheet_behind qs (read_line line.now)) values.new) }
+    ensures replies { (qs : List Quantity) → Keeps qs values.old → (lines : List (List ℕ)) → OnOk result
+        (replies.new.items ++ text_of_replies (replies_to (sheet_behind qs (read_line line.now)) lines)
+        ≡ replies.old.items ++ text_of_replies (replies_to qs (line.now ∷ lines))) }
 {
-    if line.is_empty() {
-        return Ok(());
-    }
-    let reply = match read_command(alloc, line)? {
-        Some(command) => serve(sheet, &command, steps)?,
-        None => Reply::NotBuilt,
+    let reply = match read_line(alloc, line)? {
+        Line::Blank => return Ok(()),
+        Line::Refused(fault) => Reply::Refused(fault),
+        Line::Carried(command) => serve(alloc, values, &command, steps)?,
     };
     reply.print(alloc, replies)
 }

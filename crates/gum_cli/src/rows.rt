@@ -8,33 +8,40 @@ ghost use Rattle.gum_cli.specs.Script.{out, early};
 pub fn worked_values()
     ensures empty { out (codes "") ≡ [] }
     ensures first { out (codes "given X 5 std 1\nlet Y = X + 2\nvalue Y\n") ≡ codes "ok\nok\nvalue Y 7 7\n" }
-    ensures lines_without_bytes { out (codes "\n\ngiven X 5 std 1\n\nvalue X") ≡ codes "ok\nvalue X 5 5\n" }
+    ensures blank_lines { out (codes "\n \t\n# ohm\n  given\tX 5  std 1 # ohm\nvalue X") ≡ codes "ok\nvalue X 5 5\n" }
     ensures early { early (codes "given X 5 std 1\nvalue X") ≡ codes "ok\n" }
-    ensures sums { out (codes "given S 100 std 1\nlet A = S + S + 007\nlet B = A + 1 + S\nvalue B\n")
-        ≡ codes "ok\nok\nok\nvalue B 308 308\n" }
-    ensures greatest { out (codes "let U = 999999999999999998 + 1\nvalue U\n")
-        ≡ codes "ok\nvalue U 999999999999999999 999999999999999999\n" }
+    ensures third { out (codes "let T = 1/3\nvalue T\n") ≡ codes "ok\nvalue T 0.333333333333333333 0.333333333333333334\n" }
+    ensures tight { out (codes "given X 2.5e0 std 0\nlet Y=-(X+1)*X^2-X/4\nvalue Y") ≡ codes "ok\nok\nvalue Y -22.5 -22.5\n" }
+    ensures powers { out (codes "let P = (-2)^3\nvalue P\nlet Q = 10^9 * 10^9\nvalue Q\nlet N = 2^0\n")
+        ≡ codes "ok\nvalue P -8 -8\nok\nfault overflow Q\nrefused bad_power 11\n" }
 {}
 
 /// A script with each refusal, and the order of two that both apply.
 pub fn worked_refusals()
-    ensures not_built { out (codes "given X 5\n") ≡ codes "refused not_built\n" }
-    ensures two_spaces { out (codes "value  X\n") ≡ codes "refused not_built\n" }
-    ensures many_digits { out (codes "let Y = 1234567890123456789\n") ≡ codes "refused not_built\n" }
-    ensures long_name { out (codes "value abcdefghijklmnopqrstuvwxy\n") ≡ codes "refused not_built\n" }
+    ensures number_range { out (codes "given X 1234567890123456789 exact\n") ≡ codes "refused number_range 9\n" }
+    ensures unknown_function { out (codes "let Y = sin(1)\n") ≡ codes "refused unknown_function 9\n" }
+    ensures syntax { out (codes "given X\nvalue X\r\n") ≡ codes "refused syntax 8\nrefused syntax 7\n" }
+    ensures not_number { out (codes "given X 5. std 1\n") ≡ codes "refused not_number 9\n" }
+    ensures not_built { out (codes "given X 5 rect 1\ngiven X 5 std 1 dof 5\nvalue T.V\nundo\n")
+        ≡ codes "refused not_built\nrefused not_built\nrefused not_built\nrefused not_built\n" }
+    ensures negative { out (codes "given X 5 std -1\n") ≡ codes "refused negative\n" }
     ensures duplicate { out (codes "given X 5 std 1\ngiven X 6 std 1\nvalue X\n")
         ≡ codes "ok\nrefused duplicate X\nvalue X 5 5\n" }
-    ensures unknown { out (codes "let Y = 1 + X + Z\n") ≡ codes "refused unknown X\n" }
+    ensures unknown { out (codes "let Y = 1 + X * Z\n") ≡ codes "refused unknown X\n" }
     ensures itself { out (codes "let A = A\n") ≡ codes "refused unknown A\n" }
     ensures no_such_result { out (codes "value X\n") ≡ codes "refused no_such_result X\n" }
     ensures duplicate_first { out (codes "given X 5 std 1\nlet X = Y\n") ≡ codes "ok\nrefused duplicate X\n" }
 {}
 
-/// A sum out of range is a fault of the row in which it arose, in each row that uses it.
+/// A result out of range and a divisor that may be 0 are faults of the row in which they arose, in each row
+/// that uses it.
 pub fn worked_faults()
-    ensures overflow { out (codes "let T = 999999999999999999 + 1\nvalue T\n") ≡ codes "ok\nfault overflow T\n" }
+    ensures overflow { out (codes "let T = 999999999999999999 + 1\nvalue T\nlet U = 999999999999999998 + 1\nvalue U\n")
+        ≡ codes "ok\nfault overflow T\nok\nvalue U 999999999999999999 999999999999999999\n" }
     ensures kept { out (codes "let T = 999999999999999999 + 1\nlet U = T + 1\nvalue U\n")
         ≡ codes "ok\nok\nfault overflow T\n" }
-    ensures leftmost { out (codes "let T = 999999999999999999 + 1\nlet V = 999999999999999999 + 1 + T\nvalue V\n")
-        ≡ codes "ok\nok\nfault overflow V\n" }
+    ensures leftmost { out (codes "let T = 1/0\nlet V = 999999999999999999 + 1 + T\nvalue V\nlet W = T - 1/0\nvalue W\n")
+        ≡ codes "ok\nok\nfault overflow V\nok\nfault zero_divisor T\n" }
+    ensures tiny { out (codes "let U = 1e-36 / 2\nvalue U\nlet W = 1/U\nvalue W\n")
+        ≡ codes "ok\nvalue U 0 0.000000000000000000000000000000000001\nok\nfault zero_divisor W\n" }
 {}

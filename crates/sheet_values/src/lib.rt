@@ -4,6 +4,8 @@
 
 mod evaluation;
 mod laws;
+#[cfg(test)]
+mod tests;
 mod values;
 
 pub use decimal18::OutOfMemory;

@@ -2,21 +2,34 @@ use Rattle.std.proofs.Common.{refl}
 use Rattle.std.specs.Fmt.{digits}
 use std.Quotient.{/_rec, /_rec₂}
 use Rattle.exact_fraction.specs.Fraction as fraction
-use Rattle.exact_fraction.specs.Fraction.{◌⊕◌, ◌⊗◌, floor, is_at_most}
-use Rattle.exact_fraction.specs.Number.{◌+ℚ◌, ◌*ℚ◌, neg_ℚ, is_at_most_ℚ, floor_ℚ}
+use Rattle.exact_fraction.specs.Fraction.{◌⊕◌, ◌⊗◌, inverse, floor, is_at_most}
+use Rattle.exact_fraction.specs.Number.{◌+ℚ◌, ◌*ℚ◌, inv_ℚ, neg_ℚ, is_at_most_ℚ, floor_ℚ}
 use Rattle.decimal18.specs.Bound.{value_of}
 use Rattle.decimal18.specs.Down.{is_in_range, cut_off, down, up}
+use Rattle.decimal18.specs.Literal.{parsed}
 use Rattle.fixed_interval.specs.Interval.{outward}
+use Rattle.fixed_interval.specs.Extremes.{min_ℚ, max_ℚ}
+use Rattle.fixed_interval.specs.Rules.{quotient, holds_zero}
+use Rattle.fixed_interval.specs.Powers.{power_span}
+use Rattle.formula_ast.specs.Reading.{reading_of}
+use Rattle.formula_box.specs.Values.{span_of}
+use Rattle.sheet_rows.specs.Reading.{row_read}
+use Rattle.sheet_values.specs.Evaluations.{evaluation_of}
+use Rattle.gum_cli.specs.Commands.{read_line}
 use Rattle.gum_cli.proofs.rows.worked_faults.Goals as goal
 
 pub returns-clause-overflow : goal.returns-clause-overflow
-unfolding digits outward up down cut_off is_in_range value_of ◌+ℚ◌ ◌*ℚ◌ neg_ℚ is_at_most_ℚ floor_ℚ floor is_at_most ◌⊕◌ ◌⊗◌ fraction.negated /_rec₂ /_rec
+unfolding digits read_line row_read reading_of parsed span_of evaluation_of outward quotient power_span holds_zero min_ℚ max_ℚ up down cut_off is_in_range value_of ◌+ℚ◌ ◌*ℚ◌ inv_ℚ neg_ℚ is_at_most_ℚ floor_ℚ floor is_at_most inverse ◌⊕◌ ◌⊗◌ fraction.negated /_rec₂ /_rec
 returns-clause-overflow c = refl
 
 pub returns-clause-kept : goal.returns-clause-kept
-unfolding digits outward up down cut_off is_in_range value_of ◌+ℚ◌ ◌*ℚ◌ neg_ℚ is_at_most_ℚ floor_ℚ floor is_at_most ◌⊕◌ ◌⊗◌ fraction.negated /_rec₂ /_rec
+unfolding digits read_line row_read reading_of parsed span_of evaluation_of outward quotient power_span holds_zero min_ℚ max_ℚ up down cut_off is_in_range value_of ◌+ℚ◌ ◌*ℚ◌ inv_ℚ neg_ℚ is_at_most_ℚ floor_ℚ floor is_at_most inverse ◌⊕◌ ◌⊗◌ fraction.negated /_rec₂ /_rec
 returns-clause-kept c = refl
 
 pub returns-clause-leftmost : goal.returns-clause-leftmost
-unfolding digits outward up down cut_off is_in_range value_of ◌+ℚ◌ ◌*ℚ◌ neg_ℚ is_at_most_ℚ floor_ℚ floor is_at_most ◌⊕◌ ◌⊗◌ fraction.negated /_rec₂ /_rec
+unfolding digits read_line row_read reading_of parsed span_of evaluation_of outward quotient power_span holds_zero min_ℚ max_ℚ up down cut_off is_in_range value_of ◌+ℚ◌ ◌*ℚ◌ inv_ℚ neg_ℚ is_at_most_ℚ floor_ℚ floor is_at_most inverse ◌⊕◌ ◌⊗◌ fraction.negated /_rec₂ /_rec
 returns-clause-leftmost c = refl
+
+pub returns-clause-tiny : goal.returns-clause-tiny
+unfolding digits read_line row_read reading_of parsed span_of evaluation_of outward quotient power_span holds_zero min_ℚ max_ℚ up down cut_off is_in_range value_of ◌+ℚ◌ ◌*ℚ◌ inv_ℚ neg_ℚ is_at_most_ℚ floor_ℚ floor is_at_most inverse ◌⊕◌ ◌⊗◌ fraction.negated /_rec₂ /_rec
+returns-clause-tiny c = refl

@@ -2,25 +2,46 @@ use Rattle.std.proofs.Common.{refl}
 use Rattle.std.specs.Fmt.{digits}
 use std.Quotient.{/_rec, /_rec₂}
 use Rattle.exact_fraction.specs.Fraction as fraction
-use Rattle.exact_fraction.specs.Fraction.{◌⊕◌, ◌⊗◌, floor, is_at_most}
-use Rattle.exact_fraction.specs.Number.{◌+ℚ◌, ◌*ℚ◌, neg_ℚ, is_at_most_ℚ, floor_ℚ}
+use Rattle.exact_fraction.specs.Fraction.{◌⊕◌, ◌⊗◌, inverse, floor, is_at_most}
+use Rattle.exact_fraction.specs.Number.{◌+ℚ◌, ◌*ℚ◌, inv_ℚ, neg_ℚ, is_at_most_ℚ, floor_ℚ}
 use Rattle.decimal18.specs.Bound.{value_of}
 use Rattle.decimal18.specs.Down.{is_in_range, cut_off, down, up}
+use Rattle.decimal18.specs.Literal.{parsed}
 use Rattle.fixed_interval.specs.Interval.{outward}
+use Rattle.fixed_interval.specs.Extremes.{min_ℚ, max_ℚ}
+use Rattle.fixed_interval.specs.Rules.{quotient, holds_zero}
+use Rattle.fixed_interval.specs.Powers.{power_span}
+use Rattle.formula_ast.specs.Reading.{reading_of}
+use Rattle.formula_box.specs.Values.{span_of}
+use Rattle.sheet_rows.specs.Reading.{row_read}
+use Rattle.sheet_values.specs.Evaluations.{evaluation_of}
+use Rattle.gum_cli.specs.Commands.{read_line}
 use Rattle.gum_cli.proofs.rows.worked_values.Goals as goal
 
+pub returns-clause-empty : goal.returns-clause-empty
+unfolding digits read_line row_read reading_of parsed span_of evaluation_of outward quotient power_span holds_zero min_ℚ max_ℚ up down cut_off is_in_range value_of ◌+ℚ◌ ◌*ℚ◌ inv_ℚ neg_ℚ is_at_most_ℚ floor_ℚ floor is_at_most inverse ◌⊕◌ ◌⊗◌ fraction.negated /_rec₂ /_rec
+returns-clause-empty c = refl
+
 pub returns-clause-first : goal.returns-clause-first
-unfolding digits outward up down cut_off is_in_range value_of ◌+ℚ◌ ◌*ℚ◌ neg_ℚ is_at_most_ℚ floor_ℚ floor is_at_most ◌⊕◌ ◌⊗◌ fraction.negated /_rec₂ /_rec
+unfolding digits read_line row_read reading_of parsed span_of evaluation_of outward quotient power_span holds_zero min_ℚ max_ℚ up down cut_off is_in_range value_of ◌+ℚ◌ ◌*ℚ◌ inv_ℚ neg_ℚ is_at_most_ℚ floor_ℚ floor is_at_most inverse ◌⊕◌ ◌⊗◌ fraction.negated /_rec₂ /_rec
 returns-clause-first c = refl
 
-pub returns-clause-lines_without_bytes : goal.returns-clause-lines_without_bytes
-unfolding digits outward up down cut_off is_in_range value_of ◌+ℚ◌ ◌*ℚ◌ neg_ℚ is_at_most_ℚ floor_ℚ floor is_at_most ◌⊕◌ ◌⊗◌ fraction.negated /_rec₂ /_rec
-returns-clause-lines_without_bytes c = refl
+pub returns-clause-blank_lines : goal.returns-clause-blank_lines
+unfolding digits read_line row_read reading_of parsed span_of evaluation_of outward quotient power_span holds_zero min_ℚ max_ℚ up down cut_off is_in_range value_of ◌+ℚ◌ ◌*ℚ◌ inv_ℚ neg_ℚ is_at_most_ℚ floor_ℚ floor is_at_most inverse ◌⊕◌ ◌⊗◌ fraction.negated /_rec₂ /_rec
+returns-clause-blank_lines c = refl
 
-pub returns-clause-sums : goal.returns-clause-sums
-unfolding digits outward up down cut_off is_in_range value_of ◌+ℚ◌ ◌*ℚ◌ neg_ℚ is_at_most_ℚ floor_ℚ floor is_at_most ◌⊕◌ ◌⊗◌ fraction.negated /_rec₂ /_rec
-returns-clause-sums c = refl
+pub returns-clause-early : goal.returns-clause-early
+unfolding digits read_line row_read reading_of parsed span_of evaluation_of outward quotient power_span holds_zero min_ℚ max_ℚ up down cut_off is_in_range value_of ◌+ℚ◌ ◌*ℚ◌ inv_ℚ neg_ℚ is_at_most_ℚ floor_ℚ floor is_at_most inverse ◌⊕◌ ◌⊗◌ fraction.negated /_rec₂ /_rec
+returns-clause-early c = refl
 
-pub returns-clause-greatest : goal.returns-clause-greatest
-unfolding digits outward up down cut_off is_in_range value_of ◌+ℚ◌ ◌*ℚ◌ neg_ℚ is_at_most_ℚ floor_ℚ floor is_at_most ◌⊕◌ ◌⊗◌ fraction.negated /_rec₂ /_rec
-returns-clause-greatest c = refl
+pub returns-clause-third : goal.returns-clause-third
+unfolding digits read_line row_read reading_of parsed span_of evaluation_of outward quotient power_span holds_zero min_ℚ max_ℚ up down cut_off is_in_range value_of ◌+ℚ◌ ◌*ℚ◌ inv_ℚ neg_ℚ is_at_most_ℚ floor_ℚ floor is_at_most inverse ◌⊕◌ ◌⊗◌ fraction.negated /_rec₂ /_rec
+returns-clause-third c = refl
+
+pub returns-clause-tight : goal.returns-clause-tight
+unfolding digits read_line row_read reading_of parsed span_of evaluation_of outward quotient power_span holds_zero min_ℚ max_ℚ up down cut_off is_in_range value_of ◌+ℚ◌ ◌*ℚ◌ inv_ℚ neg_ℚ is_at_most_ℚ floor_ℚ floor is_at_most inverse ◌⊕◌ ◌⊗◌ fraction.negated /_rec₂ /_rec
+returns-clause-tight c = refl
+
+pub returns-clause-powers : goal.returns-clause-powers
+unfolding digits read_line row_read reading_of parsed span_of evaluation_of outward quotient power_span holds_zero min_ℚ max_ℚ up down cut_off is_in_range value_of ◌+ℚ◌ ◌*ℚ◌ inv_ℚ neg_ℚ is_at_most_ℚ floor_ℚ floor is_at_most inverse ◌⊕◌ ◌⊗◌ fraction.negated /_rec₂ /_rec
+returns-clause-powers c = refl

@@ -1,5 +1,5 @@
 use Rattle.std.proofs.Common.{[], rules}
-use Rattle.gum_cli.specs.Words.{lines_of}
+use Rattle.gum_cli.specs.Lines.{lines_of}
 use Rattle.gum_cli.proofs.Sound.{all_sound}
 use Rattle.gum_cli.proofs.run.run.Goals as goal
 
@@ -12,5 +12,5 @@ returns-in-Ok-write_all-clause-done g c =
       met_end = search rules;
       none_left = search rules;
       wrote = search rules;
-      sound = all_sound [] (lines_of c.in-Ok.script.items);
+      sound = all_sound (lines_of c.in-Ok.script.items);
     }

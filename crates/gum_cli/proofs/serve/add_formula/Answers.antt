@@ -1,18 +1,36 @@
-use Rattle.std.proofs.Common.{sym, ◌∙◌, ap}
-use Rattle.std.specs.Prelude.{is_some}
-use Rattle.gum_cli.specs.Sums.{formula_of}
-use Rattle.gum_cli.proofs.Serving.{keeps-formula, evaluates}
+use Rattle.std.proofs.Common.{sym, ◌∙◌}
+use Rattle.formula_ast.specs.Views.{tree_of}
+use Rattle.gum_cli.proofs.Serving.{absent, first_is, unknown_reply, unknown_sheet, accepted_reply, accepted_sheet}
 use Rattle.gum_cli.proofs.serve.add_formula.Goals as goal
 
-pub unwrap-evaluation-requires : goal.unwrap-evaluation-requires
-unwrap-evaluation-requires g c =
-    rw c.evaluate.ensures (evaluates c.args.sheet.now c.args.name (formula_of c.args.sum.now) (sym c.first_unknown.ensures ∙ c.in_default.is))
+pub returns-in-Some-clause-reply : goal.returns-in-Some-clause-reply
+returns-in-Some-clause-reply g c =
+    λ qs keeps.
+    unknown_reply qs c.args.name (tree_of c.args.formula.now) c.in-Some.unknown c.first_unknown.result
+    (absent qs c.args.values.now keeps c.args.name c.get.result c.get.ensures (sym c.if-is_some.ensures))
+    (first_is qs c.args.values.now keeps (tree_of c.args.formula.now) c.in_ok-uses.uses c.first_unknown.result c.in_ok-uses.ensures c.first_unknown.ensures)
+    c.in-Some.is
+
+pub returns-in-Some-clause-sheet : goal.returns-in-Some-clause-sheet
+returns-in-Some-clause-sheet g c =
+    λ qs keeps.
+    unknown_sheet qs c.args.name (tree_of c.args.formula.now) c.in-Some.unknown c.first_unknown.result c.args.values.now
+    (absent qs c.args.values.now keeps c.args.name c.get.result c.get.ensures (sym c.if-is_some.ensures))
+    (first_is qs c.args.values.now keeps (tree_of c.args.formula.now) c.in_ok-uses.uses c.first_unknown.result c.in_ok-uses.ensures c.first_unknown.ensures)
+    c.in-Some.is keeps
+
+pub returns-clause-reply : goal.returns-clause-reply
+returns-clause-reply g c =
+    λ qs keeps.
+    accepted_reply qs c.args.name (tree_of c.args.formula.now) c.first_unknown.result
+    (absent qs c.args.values.now keeps c.args.name c.get.result c.get.ensures (sym c.if-is_some.ensures))
+    (first_is qs c.args.values.now keeps (tree_of c.args.formula.now) c.in_ok-uses.uses c.first_unknown.result c.in_ok-uses.ensures c.first_unknown.ensures)
+    c.in_default.is
 
 pub returns-clause-sheet : goal.returns-clause-sheet
 returns-clause-sheet g c =
-    λ rows keeps.
-    keeps-formula rows c.args.sheet.now c.add.new.self c.args.name c.args.sum.now c.unwrap-evaluation.result keeps
-    (sym (c.if-is_some.ensures ∙ ap is_some c.get.ensures))
-    (sym c.first_unknown.ensures ∙ c.in_default.is)
-    (sym c.evaluate.ensures ∙ c.unwrap-evaluation.ensures)
-    c.in_ok-add.ensures.ok
+    λ qs keeps.
+    let fresh = absent qs c.args.values.now keeps c.args.name c.get.result c.get.ensures (sym c.if-is_some.ensures) in
+    accepted_sheet qs c.args.name (tree_of c.args.formula.now) c.first_unknown.result c.add_formula.new.self fresh
+    (first_is qs c.args.values.now keeps (tree_of c.args.formula.now) c.in_ok-uses.uses c.first_unknown.result c.in_ok-uses.ensures c.first_unknown.ensures)
+    c.in_default.is (c.in_ok-add_formula.ensures.ok qs keeps fresh)

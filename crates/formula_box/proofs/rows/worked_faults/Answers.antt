@@ -1,0 +1,34 @@
+use Rattle.std.proofs.Common.{refl}
+use std.Quotient.{/_rec, /_rec₂}
+use Rattle.exact_fraction.specs.Fraction as fraction
+use Rattle.exact_fraction.specs.Fraction.{◌⊕◌, ◌⊗◌, inverse, is_at_most, floor}
+use Rattle.exact_fraction.specs.Number.{◌+ℚ◌, ◌*ℚ◌, inv_ℚ, neg_ℚ, is_at_most_ℚ, floor_ℚ}
+use Rattle.decimal18.specs.Bound.{value_of}
+use Rattle.decimal18.specs.Down.{is_in_range, cut_off, down, up}
+use Rattle.fixed_interval.specs.Interval.{outward}
+use Rattle.fixed_interval.specs.Extremes.{min_ℚ, max_ℚ}
+use Rattle.fixed_interval.specs.Rules.{holds_zero, quotient}
+use Rattle.fixed_interval.specs.Powers.{power_span}
+use Rattle.formula_box.specs.Values.{span_of}
+use Rattle.formula_box.specs.Slopes.{partial_of}
+use Rattle.formula_box.proofs.rows.worked_faults.Goals as goal
+
+pub returns-clause-overflow : goal.returns-clause-overflow
+unfolding span_of partial_of power_span quotient holds_zero outward min_ℚ max_ℚ value_of up down cut_off is_in_range ◌+ℚ◌ ◌*ℚ◌ inv_ℚ neg_ℚ is_at_most_ℚ floor_ℚ floor is_at_most ◌⊕◌ ◌⊗◌ inverse fraction.negated /_rec₂ /_rec
+returns-clause-overflow c = refl
+
+pub returns-clause-zero_divisor : goal.returns-clause-zero_divisor
+unfolding span_of partial_of power_span quotient holds_zero outward min_ℚ max_ℚ value_of up down cut_off is_in_range ◌+ℚ◌ ◌*ℚ◌ inv_ℚ neg_ℚ is_at_most_ℚ floor_ℚ floor is_at_most ◌⊕◌ ◌⊗◌ inverse fraction.negated /_rec₂ /_rec
+returns-clause-zero_divisor c = refl
+
+pub returns-clause-zero_divisor_first : goal.returns-clause-zero_divisor_first
+unfolding span_of partial_of power_span quotient holds_zero outward min_ℚ max_ℚ value_of up down cut_off is_in_range ◌+ℚ◌ ◌*ℚ◌ inv_ℚ neg_ℚ is_at_most_ℚ floor_ℚ floor is_at_most ◌⊕◌ ◌⊗◌ inverse fraction.negated /_rec₂ /_rec
+returns-clause-zero_divisor_first c = refl
+
+pub returns-clause-overflow_first : goal.returns-clause-overflow_first
+unfolding span_of partial_of power_span quotient holds_zero outward min_ℚ max_ℚ value_of up down cut_off is_in_range ◌+ℚ◌ ◌*ℚ◌ inv_ℚ neg_ℚ is_at_most_ℚ floor_ℚ floor is_at_most ◌⊕◌ ◌⊗◌ inverse fraction.negated /_rec₂ /_rec
+returns-clause-overflow_first c = refl
+
+pub returns-clause-of_the_value : goal.returns-clause-of_the_value
+unfolding span_of partial_of power_span quotient holds_zero outward min_ℚ max_ℚ value_of up down cut_off is_in_range ◌+ℚ◌ ◌*ℚ◌ inv_ℚ neg_ℚ is_at_most_ℚ floor_ℚ floor is_at_most ◌⊕◌ ◌⊗◌ inverse fraction.negated /_rec₂ /_rec
+returns-clause-of_the_value c = refl

@@ -1,0 +1,89 @@
+-- Sums over a list by one step after another.
+use Rattle.std.specs.Prelude.{◌≡◌, ℕ, suc, ◌+◌, ◌<◌, ◌≤◌, List, [], ◌∷◌, length, map, pos, refl}
+use Rattle.std.proofs.Common.{sym, ◌∙◌, ap, arith, drop}
+use Rattle.std.proofs.lemmas.List.{drop_more, drop_all}
+use Rattle.std.proofs.Math.ListN.{get_or}
+use Rattle.exact_fraction.specs.Number.{ℚ, of_ℤ, ◌+ℚ◌}
+use Rattle.exact_fraction.proofs.Ring.{Whole, ◌:+◌, x0, x1, x2, ring}
+use Rattle.exact_law.specs.Sums.{total, below}
+use Rattle.exact_law.specs.Law.{inputs_with, inputs_of}
+use Rattle.plain_law.specs.declared.model.Body.{Body}
+use Rattle.plain_law.specs.declared.model.Body.TheVariants.{Input, Formula}
+use Rattle.plain_law.specs.Models.{rows_from, rows}
+use Rattle.plain_law.specs.Groups.{if_input}
+
+zero_plus : (x : ℚ) → of_ℤ (pos 0) +ℚ x ≡ x
+zero_plus x = ring (x ∷ []) (Whole (pos 0) :+ x0) x0 refl
+
+plus_zero : (x : ℚ) → x +ℚ of_ℤ (pos 0) ≡ x
+plus_zero x = ring (x ∷ []) (x0 :+ Whole (pos 0)) x0 refl
+
+-- ---- the numbers below n
+pub below_zero : (f : ℕ → ℚ) (s : ℚ) → s ≡ of_ℤ (pos 0) → s ≡ total f (below 0)
+unfolding total below
+below_zero f s e = e
+
+pub below_next : (f : ℕ → ℚ) (k : ℕ) (s t : ℚ) → s ≡ total f (below k) → t ≡ f k +ℚ s → t ≡ total f (below (k + 1))
+unfolding total below
+below_next f k s t e h =
+    let g : suc k ≡ k + 1 = omega arith in
+    h ∙ ap (λ x. f k +ℚ x) e ∙ ap (λ n. total f (below n)) g
+
+-- ---- a list, of which the last part is still to come
+pub none_yet : {A B : Type 0} (f : B → ℚ) (v : A → B) (xs : List A) (s : ℚ) → s ≡ of_ℤ (pos 0)
+    → s +ℚ total f (map v (drop 0 xs)) ≡ total f (map v xs)
+none_yet f v xs s e = ap (λ t. t +ℚ total f (map v xs)) e ∙ zero_plus _
+
+after_first : {A B : Type 0} (f : B → ℚ) (v : A → B) (x : A) (xs : List A) → total f (map v (x ∷ xs)) ≡ f (v x) +ℚ total f (map v xs)
+unfolding total
+after_first f v x xs = refl
+
+pub one_more : {A B : Type 0} (f : B → ℚ) (v : A → B) (xs : List A) (k : ℕ) (x : A) (s s' t : ℚ) → k < length xs → get_or xs k x ≡ x
+    → s +ℚ total f (map v (drop k xs)) ≡ t → s' ≡ s +ℚ f (v x) → s' +ℚ total f (map v (drop (k + 1) xs)) ≡ t
+one_more f v xs k x s s' t l e h i =
+    ap (λ u. u +ℚ total f (map v (drop (k + 1) xs))) i
+    ∙ ring (s ∷ f (v x) ∷ total f (map v (drop (k + 1) xs)) ∷ []) ((x0 :+ x1) :+ x2) (x0 :+ (x1 :+ x2)) refl
+    ∙ ap (λ u. s +ℚ u) (sym (after_first f v x (drop (k + 1) xs)))
+    ∙ ap (λ y. s +ℚ total f (map v (y ∷ drop (k + 1) xs))) (sym e)
+    ∙ ap (λ ys. s +ℚ total f (map v ys)) (sym (drop_more xs k x l)) ∙ h
+
+at_end : {A B : Type 0} (f : B → ℚ) (v : A → B) → total f (map v []) ≡ of_ℤ (pos 0)
+unfolding total
+at_end f v = refl
+
+pub all_summed : {A B : Type 0} (f : B → ℚ) (v : A → B) (xs : List A) (k : ℕ) (s t : ℚ) → length xs ≤ k
+    → s +ℚ total f (map v (drop k xs)) ≡ t → s ≡ t
+all_summed f v xs k s t l h =
+    sym (plus_zero s) ∙ ap (λ u. s +ℚ u) (sym (at_end f v)) ∙ ap (λ ys. s +ℚ total f (map v ys)) (sym (drop_all k xs l)) ∙ h
+
+-- ---- the inputs of a model, of which the last part is still to come
+pub no_input_yet : (f : ℕ → ℚ) (bs : List Body) (s : ℚ) → s ≡ of_ℤ (pos 0)
+    → s +ℚ total f (inputs_of (rows_from 0 (drop 0 bs))) ≡ total f (inputs_of (rows bs))
+no_input_yet f bs s e = ap (λ t. t +ℚ total f (inputs_of (rows bs))) e ∙ zero_plus _
+
+after_row : (f : ℕ → ℚ) (k : ℕ) (b : Body) (bs : List Body)
+    → total f (inputs_of (rows_from k (b ∷ bs))) ≡ if_input b (f k) +ℚ total f (inputs_of (rows_from (suc k) bs))
+unfolding total inputs_of inputs_with rows_from
+after_row f k (Input q) bs = refl
+after_row f k (Formula g) bs = sym (zero_plus _)
+
+pub one_more_row : (f : ℕ → ℚ) (bs : List Body) (k : ℕ) (b : Body) (s s' t : ℚ) → k < length bs → get_or bs k b ≡ b
+    → s +ℚ total f (inputs_of (rows_from k (drop k bs))) ≡ t → s' ≡ s +ℚ if_input b (f k)
+    → s' +ℚ total f (inputs_of (rows_from (k + 1) (drop (k + 1) bs))) ≡ t
+one_more_row f bs k b s s' t l e h i =
+    let next : k + 1 ≡ suc k = omega arith in
+    ap (λ u. u +ℚ total f (inputs_of (rows_from (k + 1) (drop (k + 1) bs)))) i
+    ∙ ap (λ n. (s +ℚ if_input b (f k)) +ℚ total f (inputs_of (rows_from n (drop (k + 1) bs)))) next
+    ∙ ring (s ∷ if_input b (f k) ∷ total f (inputs_of (rows_from (suc k) (drop (k + 1) bs))) ∷ []) ((x0 :+ x1) :+ x2) (x0 :+ (x1 :+ x2)) refl
+    ∙ ap (λ u. s +ℚ u) (sym (after_row f k b (drop (k + 1) bs)))
+    ∙ ap (λ y. s +ℚ total f (inputs_of (rows_from k (y ∷ drop (k + 1) bs)))) (sym e)
+    ∙ ap (λ ys. s +ℚ total f (inputs_of (rows_from k ys))) (sym (drop_more bs k b l)) ∙ h
+
+no_inputs : (f : ℕ → ℚ) (k : ℕ) → total f (inputs_of (rows_from k [])) ≡ of_ℤ (pos 0)
+unfolding total inputs_of rows_from
+no_inputs f k = refl
+
+pub all_inputs : (f : ℕ → ℚ) (bs : List Body) (k : ℕ) (s t : ℚ) → length bs ≤ k
+    → s +ℚ total f (inputs_of (rows_from k (drop k bs))) ≡ t → s ≡ t
+all_inputs f bs k s t l h =
+    sym (plus_zero s) ∙ ap (λ u. s +ℚ u) (sym (no_inputs f k)) ∙ ap (λ ys. s +ℚ total f (inputs_of (rows_from k ys))) (sym (drop_all k bs l)) ∙ h

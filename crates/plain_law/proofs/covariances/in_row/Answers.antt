@@ -1,0 +1,25 @@
+use Rattle.std.specs.Prelude.{nat_eq}
+use Rattle.std.proofs.Common.{◌∙◌, ap, sym}
+use Rattle.exact_fraction.specs.Number.{◌+ℚ◌}
+use Rattle.exact_law.specs.Sums.{total}
+use Rattle.exact_law.specs.Law.{cell, joint}
+use Rattle.plain_law.specs.Numbers.{number}
+use Rattle.plain_law.specs.Groups.{column, columns}
+use Rattle.plain_law.proofs.Totals.{none_yet, one_more, all_summed}
+use Rattle.plain_law.proofs.covariances.in_row.Goals as goal
+
+pub loop-b-init : goal.loop-b-init
+loop-b-init c =
+    none_yet (λ b. cell nat_eq c.args.a.now.key b.key (joint c.args.table.now.records (column c.args.a.now).reading b.reading) c.args.i c.args.j) column c.columns-b-items.result.now _ c.whole-sum.ensures
+    ∙ ap (λ cs. total (λ b. cell nat_eq c.args.a.now.key b.key (joint c.args.table.now.records (column c.args.a.now).reading b.reading) c.args.i c.args.j) (columns cs)) c.columns-b-items.ensures
+
+pub loop-b-preserved : goal.loop-b-preserved
+loop-b-preserved c =
+    one_more (λ b. cell nat_eq c.args.a.now.key b.key (joint c.args.table.now.records (column c.args.a.now).reading b.reading) c.args.i c.args.j) column c.columns-b-items.result.now c.loop-b.b-index c.b-item.result _ _ _ c.loop-b-test.true (sym c.b-item.is)
+    c.loop-b.invariant
+    (c.in_ok-sum.ensures ∙ ap (λ x. number c.loop-b.sum +ℚ x)
+    (c.in_ok-cell.ensures ∙ ap (λ x. cell nat_eq c.args.a.now.key c.b-item.result.key x c.args.i c.args.j)
+    (c.in_ok-covariance.ensures ∙ ap (λ n. joint n (column c.args.a.now).reading (column c.b-item.result).reading) c.records.ensures.value)))
+
+pub returns : goal.returns
+returns c = all_summed (λ b. cell nat_eq c.args.a.now.key b.key (joint c.args.table.now.records (column c.args.a.now).reading b.reading) c.args.i c.args.j) column c.columns-b-items.result.now c.loop-b.b-index _ _ c.loop-b-test.false c.loop-b.invariant

@@ -1,0 +1,22 @@
+use Rattle.std.specs.Prelude.{nat_eq}
+use Rattle.std.proofs.Common.{◌∙◌, ap, sym}
+use Rattle.exact_fraction.specs.Number.{◌+ℚ◌}
+use Rattle.exact_law.specs.Sums.{total}
+use Rattle.exact_law.specs.Law.{cell, joint}
+use Rattle.plain_law.specs.Numbers.{number}
+use Rattle.plain_law.specs.Groups.{column, columns}
+use Rattle.plain_law.proofs.Totals.{none_yet, one_more, all_summed}
+use Rattle.plain_law.proofs.covariances.in_table.Goals as goal
+
+pub loop-a-init : goal.loop-a-init
+loop-a-init c =
+    none_yet (λ a. total (λ b. cell nat_eq a.key b.key (joint c.args.table.now.records a.reading b.reading) c.args.i c.args.j) (columns c.args.table.now.columns.items)) column c.columns-a-items.result.now _ c.whole-sum.ensures
+    ∙ ap (λ cs. total (λ a. total (λ b. cell nat_eq a.key b.key (joint c.args.table.now.records a.reading b.reading) c.args.i c.args.j) (columns c.args.table.now.columns.items)) (columns cs)) c.columns-a-items.ensures
+
+pub loop-a-preserved : goal.loop-a-preserved
+loop-a-preserved c =
+    one_more (λ a. total (λ b. cell nat_eq a.key b.key (joint c.args.table.now.records a.reading b.reading) c.args.i c.args.j) (columns c.args.table.now.columns.items)) column c.columns-a-items.result.now c.loop-a.a-index c.a-item.result _ _ _ c.loop-a-test.true (sym c.a-item.is)
+    c.loop-a.invariant (c.in_ok-sum.ensures ∙ ap (λ x. number c.loop-a.sum +ℚ x) c.in_ok-in_row.ensures)
+
+pub returns : goal.returns
+returns c = all_summed (λ a. total (λ b. cell nat_eq a.key b.key (joint c.args.table.now.records a.reading b.reading) c.args.i c.args.j) (columns c.args.table.now.columns.items)) column c.columns-a-items.result.now c.loop-a.a-index _ _ c.loop-a-test.false c.loop-a.invariant

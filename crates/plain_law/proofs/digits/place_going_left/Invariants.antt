@@ -1,0 +1,8 @@
+use Rattle.exact_fraction.specs.Number.{◌≤ℚ◌}
+use Rattle.exact_law.specs.Rounding.{scaled_square}
+use Rattle.plain_law.specs.Numbers.{number}
+use Rattle.plain_law.specs.DigitViews.{HasUnit}
+use Rattle.plain_law.proofs.digits.place_going_left.Given as goal
+
+abbrev pub invariant-loop-step : goal.invariant-loop-step
+invariant-loop-step l = record { unit : HasUnit l.place; low : scaled_square 199 l.place.exponent ≤ℚ number l.scaled }

@@ -1,0 +1,31 @@
+-- What a place and the two digits that the code holds are.
+use Rattle.std.specs.Prelude.{◌≡◌, ℕ, ◌+◌, ◌*◌, ◌≤◌, ℤ, pos}
+use Rattle.exact_fraction.specs.Number.{ℚ, of_ℤ, ◌≤ℚ◌}
+use Rattle.exact_law.specs.Sums.{◌<ℚ◌}
+use Rattle.exact_law.specs.Rounding.{ten_to, least_root, scaled_square, IsTwoDigits}
+use Rattle.plain_law.specs.Numbers.{number}
+use Rattle.plain_law.specs.declared.place.Place.{Place}
+use Rattle.plain_law.specs.declared.digits.Digits.{Digits}
+use Rattle.plain_law.specs.declared.digits.Digits.TheVariants.{Zero, Two}
+
+-- the unit is 10 to the power of the exponent
+pub record HasUnit (place : Place) : Type 0 where
+  pub unit : number place.unit ≡ ten_to place.exponent
+
+-- the root of s, in twentieths, has two digits at the place
+pub record IsPlaceOf (s : ℚ) (place : Place) : Type 0 where
+  pub unit : HasUnit place
+  pub low : scaled_square 199 place.exponent ≤ℚ s
+  pub high : s <ℚ scaled_square 1990 place.exponent
+
+-- m are its digits at the place
+pub record AreDigits (s : ℚ) (m : ℕ) (e : ℤ) : Type 0 where
+  pub at_least_10 : 10 ≤ m
+  pub at_most_99 : m ≤ 99
+  pub low : scaled_square (least_root m) e ≤ℚ s
+  pub high : s <ℚ scaled_square (20 * m + 10) e
+
+-- the digits are those of the root of v
+abbrev pub AreDigitsOf : ℚ → Digits → Type 0
+AreDigitsOf v Zero = v ≡ of_ℤ (pos 0)
+AreDigitsOf v (Two m e) = IsTwoDigits v m e

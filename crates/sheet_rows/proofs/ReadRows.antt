@@ -1,0 +1,133 @@
+-- A row that is read is one that is read from its printed text again.
+use Rattle.std.proofs.Common.{◌≡◌, ℕ, ◌+◌, Bool, true, false, cond, List, [], ◌∷◌, length, drop, refl, subst, ap, arith, Option, None, Some, Result, Ok, Err, IfOk}
+use Rattle.std.specs.Prelude.{codes, bytes_eq}
+use Rattle.std.proofs.lemmas.Bool.Decides.{nat_tests}
+use Rattle.decimal18.specs.Bound.{Bound, canonical, IsCanonical, IsDecimal}
+use Rattle.decimal18.specs.Literal.{Literal, literal_of, exact_of, is_bound, as_bound, in_range, read, parsed}
+use Rattle.decimal18.specs.declared.literal.NumFault.{NumFault}
+use Rattle.decimal18.specs.declared.literal.NumFault.TheVariants.{NotNumber as NoLiteral, NumberRange as NoBound}
+use Rattle.decimal18.proofs.Canonical.{IsReduced-canonical}
+use Rattle.formula_ast.specs.Names.{is_plain_name}
+use Rattle.formula_ast.specs.Trees.{Tree}
+use Rattle.formula_ast.specs.Reading.{reading_of}
+use Rattle.formula_ast.specs.declared.fault.FormulaFault.{FormulaFault}
+use Rattle.line_words.specs.Words.{Word, written_part, words_from}
+use Rattle.type_b.specs.Shapes.{checked, is_negative}
+use Rattle.type_b.specs.declared.shape.Shape.{Shape}
+use Rattle.type_b.specs.declared.shape.Shape.TheVariants.{Exact, Std}
+use Rattle.type_b.specs.declared.shape.ShapeFault.TheVariants.{Negative as BelowZero}
+use Rattle.sheet_rows.specs.Rows.{Row}
+use Rattle.sheet_rows.specs.Reading.{Read, then_read, plain_word, number_in, number_word, is_other_shape, is_other_kind, other_word, std_shape, shape_word, ended, shape_checked, given_of, past_blanks, front_name, name_at, equals_at, formula_in, formula_at, let_of, row_at, row_from, row_read}
+use Rattle.sheet_rows.specs.Regular.{HasText, IsStated, IsPrintable}
+use Rattle.sheet_rows.specs.declared.fault.RowFault.TheVariants.{Syntax}
+
+-- ---- numbers
+bound_decimal : (c : Bound) (t : Bool) → is_bound c ≡ t → IsCanonical c → (b : Bound) → cond t (Some c) None ≡ Some b → IsDecimal b
+bound_decimal c false e least b h = absurd (cc)
+bound_decimal c true e least b h =
+    let same : c ≡ b = cc in
+    subst IsDecimal same (record { bound = record { digits = grind (arith, nat_tests); most = grind (arith, nat_tests) }; canonical = least })
+
+range_decimal : (o : Option Bound) (b : Bound) → in_range o ≡ Ok b → o ≡ Some b
+range_decimal None b h = absurd (cc)
+range_decimal (Some c) b h = let same : c ≡ b = cc in ap Some same
+
+literal_decimal : (o : Option Literal) (b : Bound) → read o ≡ Ok b → IsDecimal b
+literal_decimal None b h = absurd (cc)
+literal_decimal (Some l) b h =
+    let exact : Bound = exact_of l in
+    let c : Bound = canonical exact.coefficient exact.places in
+    bound_decimal c (is_bound c) refl (IsReduced-canonical exact.coefficient exact.places).canonical b (range_decimal (as_bound exact) b h)
+
+parsed_decimal : (text : List ℕ) (b : Bound) → parsed text ≡ Ok b → IsDecimal b
+unfolding parsed
+parsed_decimal text b h = literal_decimal (literal_of text) b h
+
+-- ---- what is read, part by part
+cond_ok : {A : Type 0} (P : A → Type 0) (t : Bool) (a b : Read A) → (t ≡ true → IfOk a P) → IfOk b P → IfOk (cond t a b) P
+cond_ok P true a b h k = h refl
+cond_ok P false a b h k = k
+
+then_ok : {A B : Type 0} (P : A → Type 0) (Q : B → Type 0) (r : Read A) (next : A → Read B) → IfOk r P →
+    ((x : A) → P x → IfOk (next x) Q) → IfOk (then_read r next) Q
+then_ok P Q (Err fault) next h k = tt
+then_ok P Q (Ok x) next h k = k x h
+
+plain_ok : (end : ℕ) (ws : List Word) → IfOk (plain_word end ws) (λ x. is_plain_name x.item ≡ true)
+plain_ok end [] = tt
+plain_ok end (w ∷ ws) =
+    cond_ok (λ x. is_plain_name x.item ≡ true) (is_plain_name w.text) (Ok (record { item = w.text; rest = ws })) (Err (Syntax (w.place + 1)))
+    (λ plain. plain) tt
+
+literal_ok : (w : Word) (ws : List Word) (r : Result Bound NumFault) → ((b : Bound) → r ≡ Ok b → IsDecimal b) →
+    IfOk (number_in w ws r) (λ x. IsDecimal x.item)
+literal_ok w ws (Ok b) h = h b refl
+literal_ok w ws (Err NoLiteral) h = tt
+literal_ok w ws (Err NoBound) h = tt
+
+number_ok : (end : ℕ) (ws : List Word) → IfOk (number_word end ws) (λ x. IsDecimal x.item)
+number_ok end [] = tt
+number_ok end (w ∷ ws) = literal_ok w ws (parsed w.text) (λ b h. parsed_decimal w.text b h)
+
+-- a shape whose standard uncertainty is a bound
+abbrev HasDecimal : Shape → Type 0
+HasDecimal Exact = Unit {0}
+HasDecimal (Std u) = IsDecimal u
+
+shape_ok : (end : ℕ) (ws : List Word) → IfOk (shape_word end ws) (λ x. HasDecimal x.item)
+shape_ok end [] = tt
+shape_ok end (w ∷ ws) =
+    cond_ok (λ x. HasDecimal x.item) (bytes_eq w.text (codes "exact")) (Ok (record { item = Exact; rest = ws })) _ (λ e. tt)
+    (cond_ok (λ x. HasDecimal x.item) (bytes_eq w.text (codes "std")) (then_read (number_word end ws) std_shape)
+    (Err (other_word (is_other_shape w.text) w.place))
+    (λ e. then_ok (λ u. IsDecimal u.item) (λ x. HasDecimal x.item) (number_word end ws) std_shape (number_ok end ws) (λ u d. d)) tt)
+
+stated : (s : Shape) → HasDecimal s → IfOk (shape_checked (checked s)) (λ fine. IsStated s)
+stated Exact h = tt
+stated (Std u) h = by (is_negative u) refl where
+  by : (t : Bool) → is_negative u ≡ t → IfOk (shape_checked (cond t (Err BelowZero) (Ok (record {})))) (λ fine. IsStated (Std u))
+  by false e = (h, e)
+  by true e = tt
+
+any_ok : {A : Type 0} (r : Read A) → IfOk r (λ x. Unit {0})
+any_ok (Ok x) = tt
+any_ok (Err fault) = tt
+
+given_ok : (end : ℕ) (ws : List Word) → IfOk (given_of end ws) IsPrintable
+given_ok end ws =
+    then_ok (λ x. is_plain_name x.item ≡ true) IsPrintable (plain_word end ws) _ (plain_ok end ws) (λ name plain.
+    then_ok (λ x. IsDecimal x.item) IsPrintable (number_word end name.rest) _ (number_ok end name.rest) (λ estimate decimal.
+    then_ok (λ x. HasDecimal x.item) IsPrintable (shape_word end estimate.rest) _ (shape_ok end estimate.rest) (λ shape has.
+    then_ok (λ x. Unit {0}) IsPrintable (ended shape.rest) _ (any_ok (ended shape.rest)) (λ done u.
+    then_ok (λ x. IsStated shape.item) IsPrintable (shape_checked (checked shape.item)) _ (stated shape.item has) (λ fine states.
+    (plain, (decimal, states)))))))
+
+formula_ok : (at : ℕ) (text : List ℕ) (r : Result Tree FormulaFault) → ((f : Tree) → r ≡ Ok f → HasText f) → IfOk (formula_in at r) HasText
+formula_ok at text (Ok f) h = h f refl
+formula_ok at text (Err fault) h = tt
+
+let_ok : (line : List ℕ) (at : ℕ) → IfOk (let_of line at) IsPrintable
+let_ok line at =
+    let name : List ℕ = front_name (drop (past_blanks line at) line) in
+    then_ok (λ x. is_plain_name x.item ≡ true) IsPrintable (name_at line (past_blanks line at)) _
+    (cond_ok (λ x. is_plain_name x.item ≡ true) (is_plain_name name) (Ok (record { item = name; at = past_blanks line at + length name }))
+    (Err (Syntax (past_blanks line at + 1))) (λ plain. plain) tt) (λ x plain.
+    then_ok (λ start. Unit {0}) IsPrintable (equals_at line (past_blanks line x.at)) _ (any_ok (equals_at line (past_blanks line x.at))) (λ start u.
+    then_ok HasText IsPrintable (formula_at line start) _
+    (formula_ok start (drop start line) (reading_of (drop start line)) (λ f h. record { text = drop start line; read = h })) (λ f has.
+    (plain, has))))
+
+words_ok : (line : List ℕ) (ws : List Word) → IfOk (row_at line ws) IsPrintable
+words_ok line [] = tt
+words_ok line (w ∷ ws) =
+    cond_ok IsPrintable (bytes_eq w.text (codes "given")) (given_of (length line) ws) _ (λ e. given_ok (length line) ws)
+    (cond_ok IsPrintable (bytes_eq w.text (codes "let")) (let_of line (w.place + length w.text)) (Err (other_word (is_other_kind w.text) w.place))
+    (λ e. let_ok line (w.place + length w.text)) tt)
+
+ok_is : (r : Read Row) (row : Row) → r ≡ Ok row → IfOk r IsPrintable → IsPrintable row
+ok_is r row e h = rw e at h
+
+pub read_printable : (line : List ℕ) (from : ℕ) (row : Row) → row_read line from ≡ Ok row → IsPrintable row
+unfolding row_read
+read_printable line from row h =
+    ok_is (row_from (written_part line) from) row h (words_ok (written_part line) (words_from (written_part line) from))

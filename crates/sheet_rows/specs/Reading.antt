@@ -1,0 +1,175 @@
+-- What a line gives as a row: the line without its comment and its last blanks. It is read from left to right,
+-- and the first word or token that breaks a rule decides; its place is counted from 1. Where the line ends too
+-- early, the place is the one behind its end.
+use Rattle.std.specs.Prelude.{ℕ, ◌+◌, ◌==◌, ◌||◌, Bool, false, not, if◌then◌else◌, List, [], ◌∷◌, length, take, drop, Result, Ok, Err, bytes_eq, codes}
+use Rattle.std.specs.List.{prefix_len}
+use Rattle.decimal18.specs.Bound.{Bound}
+use Rattle.decimal18.specs.Literal.{parsed}
+use Rattle.decimal18.specs.declared.literal.NumFault.{NumFault}
+use Rattle.decimal18.specs.declared.literal.NumFault.TheVariants.{NotNumber as NoLiteral, NumberRange as NoBound}
+use Rattle.formula_ast.specs.Names.{is_plain_name}
+use Rattle.formula_ast.specs.Tokens.{is_blank}
+use Rattle.formula_ast.specs.Trees.{Tree}
+use Rattle.formula_ast.specs.Reading.{reading_of}
+use Rattle.formula_ast.specs.declared.fault.FormulaFault.{FormulaFault}
+use Rattle.formula_ast.specs.declared.fault.FormulaFault.TheVariants.{Syntax as FormulaSyntax, UnknownFunction as FormulaFunction, Number as FormulaNumber, BadPower as FormulaPower, TooDeep as FormulaDeep, TooMany as FormulaMany, OutOfMemory as FormulaMemory}
+use Rattle.line_words.specs.Words.{Word, words_from, written_part}
+use Rattle.type_b.specs.Shapes.{checked}
+use Rattle.type_b.specs.declared.shape.Shape.{Shape}
+use Rattle.type_b.specs.declared.shape.Shape.TheVariants.{Exact, Std}
+use Rattle.type_b.specs.declared.shape.Dof.TheVariants.{Inf}
+use Rattle.type_b.specs.declared.shape.ShapeFault.{ShapeFault}
+use Rattle.sheet_rows.specs.Rows.{Row, Given, Formula}
+use Rattle.sheet_rows.specs.declared.fault.RowFault.{RowFault}
+use Rattle.sheet_rows.specs.declared.fault.RowFault.TheVariants.{Syntax, NotNumber, NumberRange, UnknownFunction, BadPower, TooDeep, TooManyNodes, Negative, NotBuilt, OutOfMemory}
+
+abbrev pub Read : Type 0 → Type 0
+Read A = Result A RowFault
+
+abbrev pub then_read : {A B : Type 0} → Read A → (A → Read B) → Read B
+then_read (Err fault) next = Err fault
+then_read (Ok x) next = next x
+
+-- ---- words. `end` is the length of the line
+-- what was read, and the words behind it
+pub record Front (A : Type 0) : Type 0 where
+  pub item : A
+  pub rest : List Word
+
+-- a plain name
+abbrev pub plain_word : ℕ → List Word → Read (Front (List ℕ))
+plain_word end [] = Err (Syntax (end + 1))
+plain_word end (w ∷ ws) = if is_plain_name w.text then Ok (record { item = w.text; rest = ws }) else Err (Syntax (w.place + 1))
+
+-- a number
+abbrev pub number_in : Word → List Word → Result Bound NumFault → Read (Front Bound)
+number_in w ws (Ok b) = Ok (record { item = b; rest = ws })
+number_in w ws (Err NoLiteral) = Err (NotNumber (w.place + 1))
+number_in w ws (Err NoBound) = Err (NumberRange (w.place + 1))
+
+abbrev pub number_word : ℕ → List Word → Read (Front Bound)
+number_word end [] = Err (Syntax (end + 1))
+number_word end (w ∷ ws) = number_in w ws (parsed w.text)
+
+-- ---- forms of the language that this version does not have
+abbrev pub is_other_shape : List ℕ → Bool
+is_other_shape text =
+    bytes_eq text (codes "exp") || (bytes_eq text (codes "norm") || (bytes_eq text (codes "rect") || (bytes_eq text (codes "tri")
+    || (bytes_eq text (codes "trap") || bytes_eq text (codes "arcsine")))))
+
+abbrev pub is_degrees_word : List ℕ → Bool
+is_degrees_word text = bytes_eq text (codes "dof") || bytes_eq text (codes "rel")
+
+abbrev pub is_other_kind : List ℕ → Bool
+is_other_kind text =
+    bytes_eq text (codes "readings") || (bytes_eq text (codes "table") || (bytes_eq text (codes "corr") || bytes_eq text (codes "tol")))
+
+-- a word with which the language goes on, but not this version; or one with which it does not
+abbrev pub other_word : Bool → ℕ → RowFault
+other_word other place = if other then NotBuilt else Syntax (place + 1)
+
+-- ---- inputs
+-- the shape `std`, with the standard uncertainty behind it
+abbrev pub std_shape : Front Bound → Read (Front Shape)
+std_shape u = Ok (record { item = Std u.item; rest = u.rest })
+
+abbrev pub shape_word : ℕ → List Word → Read (Front Shape)
+shape_word end [] = Err (Syntax (end + 1))
+shape_word end (w ∷ ws) =
+    if bytes_eq w.text (codes "exact") then Ok (record { item = Exact; rest = ws }) else
+    if bytes_eq w.text (codes "std") then then_read (number_word end ws) std_shape else
+    Err (other_word (is_other_shape w.text) w.place)
+
+-- no word more
+abbrev pub ended : List Word → Read Unit
+ended [] = Ok (record {})
+ended (w ∷ ws) = Err (other_word (is_degrees_word w.text) w.place)
+
+-- a shape that states an uncertainty
+abbrev pub shape_checked : Result Unit ShapeFault → Read Unit
+shape_checked (Ok done) = Ok done
+shape_checked (Err fault) = Err Negative
+
+-- `NAME ESTIMATE exact`, `NAME ESTIMATE std UNCERTAINTY`
+abbrev pub given_of : ℕ → List Word → Read Row
+given_of end ws =
+    then_read (plain_word end ws) (λ name.
+    then_read (number_word end name.rest) (λ estimate.
+    then_read (shape_word end estimate.rest) (λ shape.
+    then_read (ended shape.rest) (λ done.
+    then_read (shape_checked (checked shape.item)) (λ fine. Ok (Given name.item estimate.item shape.item Inf))))))
+
+-- ---- formulas: the blanks round `=` may be missing
+-- what was read, and the place behind it
+pub record Behind (A : Type 0) : Type 0 where
+  pub item : A
+  pub at : ℕ
+
+-- the place behind the blanks that stand at the place `at`
+abbrev pub past_blanks : List ℕ → ℕ → ℕ
+past_blanks line at = at + prefix_len is_blank (drop at line)
+
+-- a byte that is neither a blank nor `=`
+abbrev pub is_in_name : ℕ → Bool
+is_in_name byte = not (is_blank byte || byte == 61)
+
+-- the bytes at the front that are neither blank nor `=`
+abbrev pub front_name : List ℕ → List ℕ
+front_name text = take (prefix_len is_in_name text) text
+
+-- a plain name at the place `at`
+abbrev pub name_in : ℕ → List ℕ → Read (Behind (List ℕ))
+name_in at name = if is_plain_name name then Ok (record { item = name; at = at + length name }) else Err (Syntax (at + 1))
+
+abbrev pub name_at : List ℕ → ℕ → Read (Behind (List ℕ))
+name_at line at = name_in at (front_name (drop at line))
+
+abbrev pub begins_equals : List ℕ → Bool
+begins_equals [] = false
+begins_equals (byte ∷ bytes) = byte == 61
+
+-- the place behind the `=` at the place `at`
+abbrev pub equals_at : List ℕ → ℕ → Read ℕ
+equals_at line at = if begins_equals (drop at line) then Ok (at + 1) else Err (Syntax (at + 1))
+
+-- the place of a token in the line, where the formula begins at the place `at`
+abbrev pub formula_fault : ℕ → FormulaFault → RowFault
+formula_fault at (FormulaSyntax k) = Syntax (at + k + 1)
+formula_fault at (FormulaFunction k) = UnknownFunction (at + k + 1)
+formula_fault at (FormulaNumber NoLiteral k) = NotNumber (at + k + 1)
+formula_fault at (FormulaNumber NoBound k) = NumberRange (at + k + 1)
+formula_fault at (FormulaPower k) = BadPower (at + k + 1)
+formula_fault at (FormulaDeep k) = TooDeep (at + k + 1)
+formula_fault at (FormulaMany k) = TooManyNodes (at + k + 1)
+formula_fault at FormulaMemory = OutOfMemory
+
+abbrev pub formula_in : ℕ → Result Tree FormulaFault → Read Tree
+formula_in at (Ok f) = Ok f
+formula_in at (Err fault) = Err (formula_fault at fault)
+
+-- the formula behind the place `at`
+abbrev pub formula_at : List ℕ → ℕ → Read Tree
+formula_at line at = formula_in at (reading_of (drop at line))
+
+-- `NAME = FORMULA`, behind the place `at`
+abbrev pub let_of : List ℕ → ℕ → Read Row
+let_of line at =
+    then_read (name_at line (past_blanks line at)) (λ name.
+    then_read (equals_at line (past_blanks line name.at)) (λ start.
+    then_read (formula_at line start) (λ f. Ok (Formula name.item f))))
+
+-- ---- rows
+-- the row that these words of the line give
+abbrev pub row_at : List ℕ → List Word → Read Row
+row_at line [] = Err (Syntax (length line + 1))
+row_at line (w ∷ ws) =
+    if bytes_eq w.text (codes "given") then given_of (length line) ws else
+    if bytes_eq w.text (codes "let") then let_of line (w.place + length w.text) else
+    Err (other_word (is_other_kind w.text) w.place)
+
+abbrev pub row_from : List ℕ → ℕ → Read Row
+row_from line from = row_at line (words_from line from)
+
+-- the row that the line gives from the byte `from` on
+unfoldable pub row_read : List ℕ → ℕ → Read Row
+row_read line from = row_from (written_part line) from

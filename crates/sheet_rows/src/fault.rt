@@ -1,0 +1,52 @@
+use decimal18::OutOfMemory;
+use type_b::ShapeFault;
+
+/// Why a line gives no row. A place is that of the word or token that breaks a rule, counted from 1; where
+/// the line ends too early, it is the place behind its last byte that is neither blank nor in the comment.
+#[derive(Clone, Copy, Debug, PartialEq, Eq)]
+pub enum RowFault {
+    /// No row goes on with this word or token, or the line ends too early.
+    Syntax(usize),
+    /// The word is no literal where a number must stand.
+    NotNumber(usize),
+    /// The number is a literal that is no bound.
+    NumberRange(usize),
+    /// A name stands before a parenthesis.
+    UnknownFunction(usize),
+    /// An exponent is not a single digit from 1 to 9.
+    BadPower(usize),
+    /// More than 64 parentheses and prefix minuses are open.
+    TooDeep(usize),
+    /// The formula has more than 256 nodes.
+    TooManyNodes(usize),
+    /// The standard uncertainty is below 0.
+    Negative,
+    /// The line goes on with a form of the language that this version does not have.
+    NotBuilt,
+    /// There was no memory for the row.
+    OutOfMemory,
+}
+
+impl From<OutOfMemory> for RowFault {
+    ghost use Rattle.std.specs.Prelude.{◌≡◌};
+    ghost use Rattle.sheet_rows.specs.declared.fault.RowFault.{RowFault};
+
+    ghost from_gives = { λ _ fault. fault ≡ RowFault.OutOfMemory };
+
+    fn from(_: OutOfMemory) -> RowFault {
+        RowFault::OutOfMemory
+    }
+}
+
+impl From<ShapeFault> for RowFault {
+    ghost use Rattle.std.specs.Prelude.{◌≡◌};
+    ghost use Rattle.sheet_rows.specs.declared.fault.RowFault.{RowFault};
+
+    ghost from_gives = { λ _ fault. fault ≡ RowFault.Negative };
+
+    fn from(fault: ShapeFault) -> RowFault {
+        match fault {
+            ShapeFault::Negative => RowFault::Negative,
+        }
+    }
+}
