@@ -6,7 +6,6 @@ use Rattle.std.proofs.lemmas.List.{append_assoc, append-nil}
 use Rattle.decimal18.specs.Bound.{Bound, scaled}
 use Rattle.type_b.specs.declared.shape.Shape.{Shape}
 use Rattle.type_b.specs.declared.shape.Shape.TheVariants.{Exact, Std}
-use Rattle.type_b.specs.declared.shape.Dof.{Dof}
 use Rattle.type_b.specs.declared.shape.Dof.TheVariants.{Inf}
 use Rattle.formula_ast.specs.Trees.{Tree, Number, Variable, Opposite, Joined, Raised}
 use Rattle.formula_ast.specs.declared.token.Sign.{Sign}
