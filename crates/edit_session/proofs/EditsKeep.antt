@@ -2,7 +2,8 @@
 use Rattle.std.specs.Prelude.{◌≡◌, ℕ, Bool, true, false, List, [], ◌∷◌, ◌++◌, Ok, refl}
 use Rattle.std.proofs.Common.{sym, subst}
 use Rattle.sheet_values.specs.Model.{AllHaveExponents}
-use Rattle.sheet_rows.specs.Rows.{Row, name_of}
+use Rattle.sheet_rows.specs.Rows.{Row, Given, Formula, name_of}
+use Rattle.sheet_rows.specs.Regular.{IsRegular}
 use Rattle.sheet_rows.specs.Sheets.{IsAccepted, is_named, added, set_row, removed}
 use Rattle.sheet_rows.proofs.Adding.{add_accepted}
 use Rattle.sheet_rows.proofs.Setting.{set_accepted}
@@ -46,3 +47,8 @@ edit_keeps sheet edited (Set row) h regular e =
     calculable edited (set_row row sheet) (set_accepted sheet row h.well_formed edited e) (set-exponents sheet row h.exponents regular)
 edit_keeps sheet edited (Remove n) h regular e =
     calculable edited (removed n sheet) (remove_accepted sheet n h.well_formed edited e) (removed-exponents sheet n h.exponents)
+
+-- a row that was read has exponents in range
+pub regular-exponents : (row : Row) → IsRegular row → RowHasExponents row
+regular-exponents (Given name estimate shape dof) h = tt
+regular-exponents (Formula name f) h = h.1
