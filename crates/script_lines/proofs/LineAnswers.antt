@@ -1,5 +1,5 @@
 -- What a line is read as, by its words.
-use Rattle.std.specs.Prelude.{◌≡◌, ℕ, List, [], ◌∷◌, length, Option, Some, None, Result, Ok, Err, refl}
+use Rattle.std.specs.Prelude.{◌≡◌, ℕ, List, [], ◌∷◌, length, Some, None, Ok}
 use Rattle.std.proofs.Common.{sym, ◌∙◌, ap}
 use Rattle.line_words.specs.Words.{Word, words_from, written_part}
 use Rattle.answers.specs.Commands.{Command}

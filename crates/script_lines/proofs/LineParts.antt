@@ -1,7 +1,7 @@
 -- The items of a text, by its first part.
 use Rattle.std.proofs.Common.{◌≡◌, ℕ, ◌+◌, ◌<◌, ◌==◌, false, true≢false, List, [], ◌∷◌, ◌++◌, length, get_or, length-append, take, drop, refl, ap, ◌∙◌, sym, arith}
 use Rattle.std.proofs.lemmas.List.{drop-drop, get_or_append_left, take-append-le, drop-append-le, append-nil}
-use Rattle.std.specs.List.{slice_split, join_with_byte}
+use Rattle.std.specs.List.{join_with_byte}
 use Rattle.std.proofs.lemmas.List.Splits.{length-slice_split, join_with_byte-slice_split}
 use Rattle.formula_ast.proofs.Cuts.{IsFree, cut_at}
 use Rattle.script_lines.specs.Items.{parts_of, ended_item, last_item, last_items, items_in, whole_items_in, items_of, whole_items_of}

@@ -1,5 +1,5 @@
 -- What the reader answers, beside what a line is by the definitions: any answer may be a want of memory.
-use Rattle.std.specs.Prelude.{◌≡◌, Option, Some, None, Result, Ok, Err}
+use Rattle.std.specs.Prelude.{◌≡◌, Option, Some, None, Ok, Err}
 use Rattle.sheet_rows.specs.Rows.{Row, row_of}
 use Rattle.sheet_rows.specs.declared.row.Row.{Row as CodeRow}
 use Rattle.answers.specs.Commands.{Command, command_of}

@@ -1,5 +1,5 @@
 -- The lines of a text.
-use Rattle.std.specs.Prelude.{ℕ, ◌-◌, ◌==◌, Bool, nat_lt, if◌then◌else◌, List, [], ◌∷◌, length, take}
+use Rattle.std.specs.Prelude.{ℕ, ◌==◌, Bool, nat_lt, if◌then◌else◌, List, [], ◌∷◌, length, take}
 use Rattle.std.specs.List.{slice_split, slice_index}
 use Rattle.script_lines.specs.declared.item.Item.{Item}
 use Rattle.script_lines.specs.declared.item.Item.TheVariants.{Line, LongLine}

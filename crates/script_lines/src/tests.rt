@@ -182,13 +182,25 @@ fn replies_are_printed(rt: HostRuntime) -> Result<(), Fail> {
     let name = Name::new(b"Y").ok_or("a name")?;
     let power = LineFault::Row(RowFault::BadPower(300));
     assert!(rt; prints(alloc, Reply::Fine, "ok\n")?);
-    assert!(rt; prints(alloc, Reply::Line(LineFault::LongLine), "refused long_line\n")?);
+    assert!(rt;
+        prints(
+            alloc,
+            Reply::Line(LineFault::LongLine),
+            "refused long_line\n"
+        )?
+    );
     assert!(rt; prints(alloc, Reply::Line(power), "refused bad_power 300\n")?);
     let fault = EditFault::NotEarlier(name);
     assert!(rt; prints(alloc, Reply::Edit(fault), "refused not_earlier Y\n")?);
     let fault = HistoryFault::NothingToRedo;
     assert!(rt; prints(alloc, Reply::History(fault), "refused nothing_to_redo\n")?);
-    assert!(rt; prints(alloc, Reply::Mark(MarkFault::MarksFull), "refused marks_full\n")?);
+    assert!(rt;
+        prints(
+            alloc,
+            Reply::Mark(MarkFault::MarksFull),
+            "refused marks_full\n"
+        )?
+    );
     let fault = AskFault::NoSuchResult(name);
     assert!(rt; prints(alloc, Reply::Ask(fault), "refused no_such_result Y\n")?);
     Ok(())
@@ -204,7 +216,13 @@ fn answers_are_printed(rt: HostRuntime) -> Result<(), Fail> {
     };
     let mut rows = RowList::new(alloc);
     rows.push(Rc::new(alloc, row)?)?;
-    assert!(rt; prints(alloc, Reply::Said(Answer::Dump(rows)), "let Y = X + 2\nok\n")?);
+    assert!(rt;
+        prints(
+            alloc,
+            Reply::Said(Answer::Dump(rows)),
+            "let Y = X + 2\nok\n"
+        )?
+    );
     let fault = Answer::ValueFault(ArithFault::Overflow, name);
     assert!(rt; prints(alloc, Reply::Said(fault), "fault overflow T.V\n")?);
     Ok(())
