@@ -38,8 +38,6 @@ pub enum AskFault {
 /// Why a line is no command.
 #[derive(Clone, Copy, Debug, PartialEq, Eq)]
 pub enum LineFault {
-    /// The line gives no row.
-    Row(RowFault),
     /// The word or token at this place, counted from 1, breaks a rule.
     Syntax(usize),
     /// The line gives no row, for this reason.

@@ -1,7 +1,9 @@
-ghost use Rattle.std.specs.Prelude.{◌≡◌, ◌++◌, ◌∷◌, [], List, IfOk, OnOk};
+ghost use Rattle.std.specs.Prelude.{◌≡◌, ◌++◌, ◌∷◌, [], List, IsTrue, IsFalse, IfSome, IfNone, IfOk, OnOk, OnErr};
 ghost use Rattle.script_lines.specs.declared.item.Item.{Item};
+ghost use Rattle.script_lines.specs.Items.{items_of, whole_items_of};
 ghost use Rattle.script_lines.specs.Commands.{command_read};
-ghost use Rattle.gum_cli.specs.Script.{state_behind, replies_to, text_of_replies, out};
+ghost use Rattle.script_lines.specs.Texts.{is_line_memory, is_memory_fault};
+ghost use Rattle.gum_cli.specs.Script.{state_behind, replies_of, replies_to, text_of_replies, out};
 
 use crate::serve::serve;
 use answers::{LineFault, Reply};
@@ -28,13 +30,43 @@ pub fn respond<L: Ledger>(
     'items: while let Some(item) = splitter.take()? {
         answer_item(alloc, &item, &mut session, &mut replies, steps)?;
     }
-    if let Some(item) = splitter.finish()? {
-        answer_item(alloc, &item, &mut session, &mut replies, steps)?;
-    }
+    answer_last(alloc, splitter, &mut session, &mut replies, steps)?;
     Ok(replies)
 }
 
-// Answers one line, whichever lines come behind it. A line without words has no reply.
+// A line that is no command is refused, if it was not for want of memory.
+fn refuse(fault: LineFault) -> Result<Reply, OutOfMemory>
+    ensures same { IfOk result (λ reply. reply ≡ Reply.Line fault) }
+    ensures said { IfOk result (λ reply. IsFalse (is_memory_fault reply)) }
+    ensures memory { OnErr result (IsTrue (is_line_memory fault)) }
+{
+    match fault {
+        LineFault::OutOfMemory | LineFault::Row(RowFault::OutOfMemory) => Err(OutOfMemory),
+        fault => Ok(Reply::Line(fault)),
+    }
+}
+
+// The reply to one line. A line without words has none.
+fn reply_to<L: Ledger>(
+    alloc: Global,
+    item: &Item,
+    session: &mut Session,
+    steps: &mut Steps<L>,
+) -> Result<Option<Reply>, OutOfMemory>
+    ensures state { OnOk result (session.new ≡ state_behind session.old (command_read item.now)) }
+    ensures reply { IfOk result (λ reply. IfSome reply (λ reply.
+        replies_of session.old (command_read item.now) ≡ reply ∷ [])) }
+    ensures none { IfOk result (λ reply. IfNone reply (replies_of session.old (command_read item.now) ≡ [])) }
+    ensures said { IfOk result (λ reply. IfSome reply (λ reply. IsFalse (is_memory_fault reply))) }
+{
+    match read_command(alloc, item) {
+        Ok(None) => Ok(None),
+        Ok(Some(command)) => Ok(Some(serve(session, command, steps)?)),
+        Err(fault) => Ok(Some(refuse(fault)?)),
+    }
+}
+
+// Answers one line, whichever lines come behind it.
 fn answer_item<L: Ledger>(
     alloc: Global,
     item: &Item,
@@ -47,12 +79,27 @@ fn answer_item<L: Ledger>(
         (replies.new.items ++ text_of_replies (replies_to session.new items)
         ≡ replies.old.items ++ text_of_replies (replies_to session.old (item.now ∷ items))) }
 {
-    let reply = match read_command(alloc, item) {
-        Ok(None) => return Ok(()),
-        Ok(Some(command)) => serve(session, command, steps)?,
-        Err(LineFault::OutOfMemory) => return Err(OutOfMemory),
-        Err(fault) => Reply::Line(fault),
-    };
-    let text = print_reply(alloc, &reply)?;
-    replies.extend_from_slice(text.as_slice())
+    if let Some(reply) = reply_to(alloc, item, session, steps)? {
+        let text = print_reply(alloc, &reply)?;
+        replies.extend_from_slice(text.as_slice())?;
+    }
+    Ok(())
+}
+
+// Answers the line that no line feed ended, if there is one.
+fn answer_last<L: Ledger>(
+    alloc: Global,
+    splitter: Splitter,
+    session: &mut Session,
+    replies: &mut Vec<u8>,
+    steps: &mut Steps<L>,
+) -> Result<(), OutOfMemory>
+    requires { whole_items_of splitter ≡ [] }
+    ensures { OnOk result (replies.new.items
+        ≡ replies.old.items ++ text_of_replies (replies_to session.old (items_of splitter))) }
+{
+    match splitter.finish()? {
+        Some(item) => answer_item(alloc, &item, session, replies, steps),
+        None => Ok(()),
+    }
 }

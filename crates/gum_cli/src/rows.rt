@@ -9,6 +9,7 @@ pub fn worked_values()
     ensures empty { out (codes "") ≡ [] }
     ensures first { out (codes "given X 5 std 1\nlet Y = X + 2\nvalue Y\n") ≡ codes "ok\nok\nvalue Y 7 7\n" }
     ensures blank_lines { out (codes "\n \t\n# ohm\n  given\tX 5  std 1 # ohm\nvalue X") ≡ codes "ok\nvalue X 5 5\n" }
+    ensures returned { out (codes "given X 5 std 1 # ohm\r\n\r\nvalue X") ≡ codes "ok\nvalue X 5 5\n" }
     ensures early { early (codes "given X 5 std 1\nvalue X") ≡ codes "ok\n" }
     ensures third { out (codes "let T = 1/3\nvalue T\n") ≡ codes "ok\nvalue T 0.333333333333333333 0.333333333333333334\n" }
     ensures tight { out (codes "given X 2.5e0 std 0\nlet Y=-(X+1)*X^2-X/4\nvalue Y") ≡ codes "ok\nok\nvalue Y -22.5 -22.5\n" }
@@ -16,21 +17,41 @@ pub fn worked_values()
         ≡ codes "ok\nvalue P -8 -8\nok\nfault overflow Q\nrefused bad_power 11\n" }
 {}
 
-/// A script with each refusal, and the order of two that both apply.
+/// Lines that are no command, each with the reason and its place.
 pub fn worked_refusals()
     ensures number_range { out (codes "given X 1234567890123456789 exact\n") ≡ codes "refused number_range 9\n" }
     ensures unknown_function { out (codes "let Y = sin(1)\n") ≡ codes "refused unknown_function 9\n" }
-    ensures syntax { out (codes "given X\nvalue X\r\n") ≡ codes "refused syntax 8\nrefused syntax 7\n" }
+    ensures syntax { out (codes "given X\nvalue X\r\r\n") ≡ codes "refused syntax 8\nrefused syntax 7\n" }
     ensures not_number { out (codes "given X 5. std 1\n") ≡ codes "refused not_number 9\n" }
-    ensures not_built { out (codes "given X 5 rect 1\ngiven X 5 std 1 dof 5\nvalue T.V\nundo\n")
+    ensures not_built { out (codes "given X 5 rect 1\ngiven X 5 std 1 dof 5\ntable T\nvar X\n")
         ≡ codes "refused not_built\nrefused not_built\nrefused not_built\nrefused not_built\n" }
     ensures negative { out (codes "given X 5 std -1\n") ≡ codes "refused negative\n" }
-    ensures duplicate { out (codes "given X 5 std 1\ngiven X 6 std 1\nvalue X\n")
-        ≡ codes "ok\nrefused duplicate X\nvalue X 5 5\n" }
-    ensures unknown { out (codes "let Y = 1 + X * Z\n") ≡ codes "refused unknown X\n" }
-    ensures itself { out (codes "let A = A\n") ≡ codes "refused unknown A\n" }
-    ensures no_such_result { out (codes "value X\n") ≡ codes "refused no_such_result X\n" }
+{}
+
+/// Commands that are refused, and the order of two reasons that both apply. The sheet stays as it was.
+pub fn worked_verdicts()
+    ensures duplicate { out (codes "given X 5 std 1\ngiven X 6 std 1\ndump\n")
+        ≡ codes "ok\nrefused duplicate X\ngiven X 5 std 1\nok\n" }
     ensures duplicate_first { out (codes "given X 5 std 1\nlet X = Y\n") ≡ codes "ok\nrefused duplicate X\n" }
+    ensures unknown { out (codes "let Y = 1 + X * Z\nset let Y = 1\nremove Y\n")
+        ≡ codes "refused unknown X\nrefused unknown Y\nrefused unknown Y\n" }
+    ensures not_earlier { out (codes "let A = A + 1\nlet A = 1\nlet B = A\nset let A = B\n")
+        ≡ codes "refused not_earlier A\nok\nok\nrefused not_earlier B\n" }
+    ensures in_use { out (codes "given X 5 std 1\nlet Y = X\nremove X\n") ≡ codes "ok\nok\nrefused in_use Y\n" }
+    ensures nothing { out (codes "undo\nredo\nrestore M\nat M dump\n")
+        ≡ codes "refused nothing_to_undo\nrefused nothing_to_redo\nrefused no_mark M\nrefused no_mark M\n" }
+    ensures no_such_result { out (codes "value X\nvalue T.V\n")
+        ≡ codes "refused no_such_result X\nrefused no_such_result T.V\n" }
+{}
+
+/// A row that another uses changes; steps go back and forward; a mark keeps its sheet.
+pub fn worked_edits()
+    ensures zero_divisor { out (codes "given X 5 std 1\nlet Z = 1/(X-5)\nvalue Z\nset given X 6 std 1\nvalue Z\nset let Z = 2^3\nremove X\nvalue Z\n")
+        ≡ codes "ok\nok\nfault zero_divisor Z\nok\nvalue Z 1 1\nok\nok\nvalue Z 8 8\n" }
+    ensures undo_order { out (codes "given X 5 std 1\nlet Y = X+2\ngiven Z 1 exact\nremove X\nremove Y\nundo\ndump\nundo\nundo\nundo\nundo\n")
+        ≡ codes "ok\nok\nok\nrefused in_use Y\nok\nok\ngiven X 5 std 1\nlet Y = X + 2\ngiven Z 1 exact\nok\nok\nok\nok\nrefused nothing_to_undo\n" }
+    ensures marks { out (codes "given X 5 std 1\nmark A\nset given X 6 std 1\nvalue X\nat A value X\nrestore A\nvalue X\nundo\nvalue X\nredo\nvalue X\nredo\nrestore B\n")
+        ≡ codes "ok\nok\nok\nvalue X 6 6\nvalue X 5 5\nok\nvalue X 5 5\nok\nvalue X 6 6\nok\nvalue X 5 5\nrefused nothing_to_redo\nrefused no_mark B\n" }
 {}
 
 /// A result out of range and a divisor that may be 0 are faults of the row in which they arose, in each row

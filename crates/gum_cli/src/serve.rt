@@ -1,6 +1,6 @@
 ghost use Rattle.std.specs.Prelude.{◌≡◌, IsFalse, IfOk};
-ghost use Rattle.answers.specs.Commands.{Command, command_of};
-ghost use Rattle.answers.specs.declared.reply.Reply.{Reply};
+ghost use Rattle.answers.specs.Commands.{Command as Asked, command_of};
+ghost use Rattle.answers.specs.declared.reply.Reply.{Reply as Given};
 ghost use Rattle.script_lines.specs.Texts.{is_memory_fault};
 ghost use Rattle.edit_session.specs.Machine.{State, step};
 ghost use Rattle.edit_session.specs.Calculable.{CommandHasExponents};
@@ -40,7 +40,7 @@ pub(crate) fn serve<L: Ledger>(
 
 // The reply to an edit.
 fn answer_edit(done: Result<(), EditFault>) -> Result<Reply, OutOfMemory>
-    ensures step { (old new : State) (command : Command) → Does old command new (edit_reply done)
+    ensures step { (old new : State) (command : Asked) → Does old command new (edit_reply done)
         → IfOk result (λ reply. step old command ≡ (new, reply)) }
     ensures said { IfOk result (λ reply. IsFalse (is_memory_fault reply)) }
 {
@@ -53,7 +53,7 @@ fn answer_edit(done: Result<(), EditFault>) -> Result<Reply, OutOfMemory>
 
 // The reply to a step back or forward.
 fn answer_step(done: Result<(), HistoryFault>) -> Result<Reply, OutOfMemory>
-    ensures step { (old new : State) (command : Command) → Does old command new (history_reply done)
+    ensures step { (old new : State) (command : Asked) → Does old command new (history_reply done)
         → IfOk result (λ reply. step old command ≡ (new, reply)) }
     ensures said { IfOk result (λ reply. IsFalse (is_memory_fault reply)) }
 {
@@ -66,7 +66,7 @@ fn answer_step(done: Result<(), HistoryFault>) -> Result<Reply, OutOfMemory>
 
 // The reply to a mark or to its being restored.
 fn answer_mark(done: Result<(), MarkFault>) -> Result<Reply, OutOfMemory>
-    ensures step { (old new : State) (command : Command) → Does old command new (mark_reply done)
+    ensures step { (old new : State) (command : Asked) → Does old command new (mark_reply done)
         → IfOk result (λ reply. step old command ≡ (new, reply)) }
     ensures said { IfOk result (λ reply. IsFalse (is_memory_fault reply)) }
 {
@@ -79,7 +79,7 @@ fn answer_mark(done: Result<(), MarkFault>) -> Result<Reply, OutOfMemory>
 
 // The reply to a query.
 fn answer_query(answered: Result<Answer, AskFault>) -> Result<Reply, OutOfMemory>
-    ensures reply { (reply : Reply) → Gives (ask_reply answered) reply → IfOk result (λ given. given ≡ reply) }
+    ensures reply { (reply : Given) → Gives (ask_reply answered) reply → IfOk result (λ given. given ≡ reply) }
     ensures said { IfOk result (λ reply. IsFalse (is_memory_fault reply)) }
 {
     match answered {

@@ -153,10 +153,10 @@ fn refuses_lines(rt: HostRuntime) -> Result<(), Fail> {
     assert_replies! { rt;
         b"given X 1234567890123456789 exact\n" => b"refused number_range 9\n",
         b"let Y = sin(1)\nlet Y = 2 + 3x\n" => b"refused unknown_function 9\nrefused syntax 14\n",
-        b"value  X\nvalue X\r\n\x00\xff\n" => b"refused no_such_result X\nrefused syntax 7\nrefused syntax 1\n",
+        b"value  X\nvalue X\r\r\n\x00\xff\n" => b"refused no_such_result X\nrefused syntax 7\nrefused syntax 1\n",
         b"given X 5. std 1\ngiven X 5 std -1\ngiven X\n" => b"refused not_number 9\nrefused negative\nrefused syntax 8\n",
-        b"undo\nvalue T.V\ngiven X 5 rect 1\nvalue\nvalue X Y\n"
-            => b"refused not_built\nrefused not_built\nrefused not_built\nrefused syntax 6\nrefused syntax 9\n",
+        b"var X\nvalue T.V\ngiven X 5 rect 1\nvalue\nvalue X Y\n"
+            => b"refused not_built\nrefused no_such_result T.V\nrefused not_built\nrefused syntax 6\nrefused syntax 9\n",
     }
     Ok(())
 }
