@@ -8,7 +8,6 @@ use Rattle.std.proofs.lemmas.Option.{slice_get-map}
 use Rattle.std.proofs.lemmas.Map.Made.{lookup-map_values}
 use Rattle.circular_buffer.specs.Buffer.{keep_last, last_item}
 use Rattle.indexmap.specs.IndexMap.{insert_entry}
-use Rattle.sheet_rows.specs.Rows.{Row}
 use Rattle.sheet_rows.specs.Places.{sheet_of}
 use Rattle.sheet_rows.specs.declared.row.Row.{Row as CodeRow}
 use Rattle.edit_session.specs.Machine.{past_limit, past_with, last_of, before_last, kept_as, with_mark, may_mark, mark_limit}

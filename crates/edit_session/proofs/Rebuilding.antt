@@ -1,11 +1,11 @@
 -- Each command by which a sheet is built anew is carried out, and the sheet comes of it.
 use Rattle.std.specs.Prelude.{◌≡◌, ℕ, ◌≤◌, Bool, true, false, ◌&&◌, ◌||◌, not, if◌then◌else◌, List, [], ◌∷◌, ◌++◌, map, length, Ok, bytes_eq, refl}
-use Rattle.std.specs.List.{list_any, list_all}
+use Rattle.std.specs.List.{list_all}
 use Rattle.std.proofs.Common.{sym, ◌∙◌, ap, ap₂, subst, arith, length-append}
 use Rattle.std.proofs.lemmas.List.{append_assoc, append-nil, length-map, map-append}
 use Rattle.std.proofs.lemmas.List.Folds.{list_any-append, list_all-append}
 use Rattle.sheet_rows.specs.Rows.{Row, Given, Formula, name_of, used_names}
-use Rattle.sheet_rows.specs.Sheets.{IsWellFormed, row_limit, is_named, has_row, has_quantity, are_named_once, are_known, are_earlier, added, set_row, verdict_add, verdict_set}
+use Rattle.sheet_rows.specs.Sheets.{IsWellFormed, row_limit, is_named, has_row, has_quantity, are_named_once, are_known, are_earlier, added, set_row}
 use Rattle.sheet_rows.proofs.Conditions.{and_left, and_right, and_both, or_left, or_right, not_true, other_way}
 use Rattle.sheet_rows.proofs.Verdicts.{named_itself, quantity_is_row, list_all_agree}
 use Rattle.sheet_rows.proofs.Adding.{add_complete}

@@ -1,12 +1,12 @@
 -- What the replies of a sheet say.
-use Rattle.std.specs.Prelude.{◌≡◌, ◌↔◌, ℕ, Bool, true, false, List, [], ◌∷◌, ◌++◌, is_some, Option, Some, None, refl}
-use Rattle.std.proofs.Common.{sym, ◌∙◌, ap, subst}
+use Rattle.std.specs.Prelude.{◌≡◌, ◌↔◌, ℕ, false, List, [], ◌∷◌, ◌++◌, is_some, Option, Some, None, refl}
+use Rattle.std.proofs.Common.{sym, ◌∙◌, subst}
 use Rattle.std.proofs.lemmas.Bool.{true≢false}
 use Rattle.std.proofs.lemmas.List.{append_assoc, append-nil, map-append}
 use Rattle.fixed_interval.specs.Interval.{Interval}
 use Rattle.sheet_rows.specs.Rows.{Row, Given, Formula, name_of}
 use Rattle.sheet_rows.specs.Sheets.{has_row}
-use Rattle.sheet_values.specs.Quantities.{Quantity, is_there}
+use Rattle.sheet_values.specs.Quantities.{is_there}
 use Rattle.sheet_values.specs.Evaluations.{evaluation_of}
 use Rattle.sheet_values.specs.Cells.{IsStanding}
 use Rattle.sheet_values.specs.Model.{HasValueIn}
@@ -15,7 +15,7 @@ use Rattle.sheet_values.specs.declared.evaluation.Evaluation.TheVariants.{Enclos
 use Rattle.sheet_values.proofs.Sound.{values_enclosed}
 use Rattle.sheet_values.proofs.Standing.{standing_empty, standing-added}
 use Rattle.answers.specs.declared.fault.AskFault.TheVariants.{NoSuchResult}
-use Rattle.answers.specs.declared.reply.Answer.TheVariants.{Value, Dump, ValueFault}
+use Rattle.answers.specs.declared.reply.Answer.TheVariants.{Value}
 use Rattle.answers.specs.declared.reply.Reply.TheVariants.{Ask, Said}
 use Rattle.edit_session.specs.Replies.{quantity_of, quantities, value_reply}
 use Rattle.edit_session.specs.Calculable.{IsCalculable}

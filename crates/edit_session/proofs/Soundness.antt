@@ -1,13 +1,12 @@
 -- Each command keeps the values of all sheets of a session such that they can be worked out.
-use Rattle.std.specs.Prelude.{◌≡◌, ℕ, zero, suc, ◌-◌, Bool, true, false, List, [], ◌∷◌, ◌++◌, length, take, drop, slice_get, Option, Some, None, Result, Ok, Err, bytes_eq, refl}
-use Rattle.std.specs.Map.{lookup}
-use Rattle.std.proofs.Common.{sym, ◌∙◌, ap, subst, arith}
+use Rattle.std.specs.Prelude.{◌≡◌, ℕ, zero, suc, ◌-◌, Bool, true, false, List, [], ◌∷◌, ◌++◌, length, take, drop, slice_get, Option, Some, None, Ok, Err, bytes_eq, refl}
+use Rattle.std.proofs.Common.{ap, subst, arith}
 use Rattle.std.proofs.lemmas.Option.{none-some, same_Some}
 use Rattle.sheet_rows.specs.Rows.{Row}
 use Rattle.sheet_rows.specs.Sheets.{Verdict}
 use Rattle.answers.specs.Commands.{Edit, Command, Change, Undo, Redo, Mark, Restore, Ask, AskAt}
 use Rattle.answers.specs.declared.reply.Reply.{Reply}
-use Rattle.edit_session.specs.Machine.{State, initial, past_limit, past_with, last_of, before_last, accepted, verdict, edited, undone, redone, kept_as, with_mark, may_mark, marked, restored, step}
+use Rattle.edit_session.specs.Machine.{State, initial, past_limit, past_with, last_of, accepted, verdict, edited, undone, redone, kept_as, with_mark, marked, restored, step}
 use Rattle.edit_session.specs.Calculable.{IsCalculable, AreCalculable, AreKeptCalculable, IsSound, CommandHasExponents}
 use Rattle.edit_session.proofs.EditsKeep.{edit_keeps}
 

@@ -1,5 +1,5 @@
 -- What each call makes of the code's lists is the machine's step.
-use Rattle.std.specs.Prelude.{◌≡◌, ℕ, ◌-◌, Bool, true, false, List, [], ◌∷◌, ◌++◌, map, reverse, length, take, if◌then◌else◌, Option, Some, None, Ok, bytes_eq, refl}
+use Rattle.std.specs.Prelude.{◌≡◌, ℕ, ◌-◌, true, List, [], ◌∷◌, ◌++◌, map, reverse, length, take, Some, Ok, bytes_eq}
 use Rattle.std.specs.Map.{lookup}
 use Rattle.std.specs.Option.{option_map}
 use Rattle.std.proofs.Common.{sym, ◌∙◌, ap, ap₂}
@@ -9,9 +9,9 @@ use Rattle.sheet_rows.specs.Rows.{Row}
 use Rattle.sheet_rows.specs.Places.{sheet_of}
 use Rattle.answers.specs.Commands.{Edit, Change, Undo, Redo, Mark, Restore}
 use Rattle.answers.specs.declared.reply.Reply.TheVariants.{Fine}
-use Rattle.edit_session.specs.Machine.{State, Step, past_limit, past_with, verdict, edited, undone, redone, kept_as, with_mark, may_mark, marked, restored, step}
+use Rattle.edit_session.specs.Machine.{Step, past_limit, past_with, verdict, edited, undone, redone, may_mark, marked, restored, step}
 use Rattle.edit_session.specs.States.{state_from, marks_of}
-use Rattle.edit_session.proofs.Lists.{Held, past-with, last-of, before-last, future-with, kept-as, with-mark, may-mark}
+use Rattle.edit_session.proofs.Lists.{Held, past-with, last-of, before-last, future-with, kept-as, with-mark}
 
 abbrev made : List Row → List (List Row) → List (List Row) → List (List ℕ × List Row) → Step
 made present past future marks = (record { present = present; past = past; future = future; marks = marks }, Fine)

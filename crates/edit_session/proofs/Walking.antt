@@ -1,10 +1,9 @@
 -- In a sheet whose values can be worked out each row has a new name and uses quantities of the rows before it.
-use Rattle.std.specs.Prelude.{◌≡◌, ℕ, suc, ◌+◌, ◌<◌, ◌≤◌, Bool, true, false, ◌&&◌, ◌||◌, not, bytes_eq, List, [], ◌∷◌, ◌++◌, map, drop, length, Result, Ok, Err, OnOk, refl}
+use Rattle.std.specs.Prelude.{◌≡◌, ℕ, suc, ◌+◌, ◌<◌, ◌≤◌, Bool, true, false, ◌||◌, not, bytes_eq, List, [], ◌∷◌, ◌++◌, map, drop, length, refl}
 use Rattle.std.specs.List.{list_all}
 use Rattle.std.proofs.Common.{sym, ◌∙◌, ap, ap₂, subst, get_or, drop-cons, add-one}
 use Rattle.std.proofs.lemmas.List.{drop_all, append_assoc, append-nil, map-append}
-use Rattle.formula_ast.specs.Trees.{Tree}
-use Rattle.sheet_rows.specs.Rows.{Row, Given, Formula, row_of, name_of}
+use Rattle.sheet_rows.specs.Rows.{Row, Given, Formula, name_of}
 use Rattle.sheet_rows.specs.Sheets.{has_row, are_named_once, are_known, are_earlier}
 use Rattle.sheet_values.specs.Quantities.{Quantity, is_there}
 use Rattle.sheet_values.specs.Model.{AllHaveExponents}

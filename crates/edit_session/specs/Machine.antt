@@ -1,8 +1,7 @@
 -- The session as a machine on whole sheets: a present sheet, the sheets to which undo and redo lead, and
 -- those that are kept under names.
-use Rattle.std.specs.Prelude.{ℕ, Bool, true, false, ◌-◌, ◌||◌, nat_lt, is_some, if◌then◌else◌, List, [], ◌∷◌, ◌++◌, length, take, drop, slice_get, Option, None, Some, Result, Ok, Err, bytes_eq}
+use Rattle.std.specs.Prelude.{ℕ, Bool, true, false, ◌-◌, ◌||◌, nat_lt, is_some, if◌then◌else◌, List, [], ◌∷◌, ◌++◌, length, take, drop, slice_get, Option, None, Some, Ok, Err, bytes_eq}
 use Rattle.std.specs.Map.{lookup}
-use Rattle.fixed_interval.specs.Interval.{Interval}
 use Rattle.sheet_rows.specs.Rows.{Row}
 use Rattle.sheet_rows.specs.Sheets.{Verdict, verdict_add, verdict_set, verdict_remove}
 use Rattle.answers.specs.declared.command.Query.{Query}

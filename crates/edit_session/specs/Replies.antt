@@ -1,7 +1,7 @@
 -- The reply of a sheet to a query.
 use Rattle.std.specs.Prelude.{ℕ, List, map, Option, None, Some}
 use Rattle.sheet_rows.specs.Rows.{Row, Given, Formula}
-use Rattle.sheet_values.specs.Quantities.{Body, Input, Function, Quantity}
+use Rattle.sheet_values.specs.Quantities.{Input, Function, Quantity}
 use Rattle.sheet_values.specs.Evaluations.{evaluation_of}
 use Rattle.sheet_values.specs.declared.evaluation.Evaluation.{Evaluation}
 use Rattle.sheet_values.specs.declared.evaluation.Evaluation.TheVariants.{Enclosed, Fault}

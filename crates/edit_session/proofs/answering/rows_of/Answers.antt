@@ -1,4 +1,4 @@
-use Rattle.std.proofs.Common.{◌≡◌, ◌+◌, ◌∷◌, ◌++◌, [], map, drop, sym, ◌∙◌, ap}
+use Rattle.std.proofs.Common.{◌+◌, ◌∷◌, ◌++◌, [], map, drop, sym, ◌∙◌, ap}
 use Rattle.std.proofs.lemmas.List.{append_assoc, append-nil}
 use Rattle.std.proofs.lemmas.Simd.{map-map}
 use Rattle.sheet_rows.specs.Rows.{row_of}

@@ -1,4 +1,4 @@
-use Rattle.std.proofs.Common.{◌≡◌, ◌++◌, ◌∷◌, [], true, sym, ◌∙◌, ap, ap₂, subst}
+use Rattle.std.proofs.Common.{◌≡◌, ◌++◌, ◌∷◌, [], ◌∙◌, ap, ap₂, subst}
 use Rattle.circular_buffer.specs.Buffer.{buffer, keep_last}
 use Rattle.answers.specs.declared.reply.Reply.TheVariants.{Fine}
 use Rattle.edit_session.specs.Machine.{State, step}

@@ -1,10 +1,8 @@
-use Rattle.std.proofs.Common.{◌≡◌, ◌++◌, ◌∷◌, [], true, sym, ◌∙◌, ap, ap₂, subst}
-use Rattle.circular_buffer.specs.Buffer.{buffer, keep_last}
+use Rattle.std.proofs.Common.{◌≡◌, sym, ◌∙◌, ap, subst}
 use Rattle.answers.specs.declared.reply.Reply.TheVariants.{Fine}
 use Rattle.edit_session.specs.Machine.{State, step}
 use Rattle.edit_session.specs.States.{state_of, state_from}
 use Rattle.edit_session.proofs.Soundness.{stepped-sound}
-use Rattle.std.proofs.Common.{false}
 use Rattle.answers.specs.Commands.{Mark}
 use Rattle.answers.specs.declared.fault.MarkFault.TheVariants.{MarksFull}
 use Rattle.answers.specs.declared.reply.Reply.TheVariants.{Mark as MarkRefused}

@@ -1,0 +1,9 @@
+use Rattle.std.proofs.Common.{rules, ◌≡◌}
+use Rattle.std.specs.Prelude.{codes}
+use Rattle.gum_cli.proofs.Rooms.{room_for_reply}
+use Rattle.gum_cli.proofs.tests.runs_between_objects_in_memory.Goals as goal
+
+pub run_in_memory-requires-clause-room : goal.run_in_memory-requires-clause-room
+run_in_memory-requires-clause-room g c =
+    let script : c.in_ok-script.script.items ≡ codes "value X\n" = search rules in
+    room_for_reply _ _ c.in_ok-script.script.items c.in_ok-sink.ensures.room c.new-source.ensures.left script
