@@ -1,5 +1,5 @@
 -- The sinks of the tests have room for the one reply that is written to them.
-use Rattle.std.specs.Prelude.{◌≡◌, ℕ, ◌≤◌, List, length, Option, Some, None, codes, refl}
+use Rattle.std.specs.Prelude.{◌≡◌, ℕ, ◌≤◌, List, length, Option, Some, codes, refl}
 use Rattle.std.proofs.Common.{arith, ap, subst, sym, ◌∙◌}
 use Rattle.std.specs.Fmt.{digits}
 use Rattle.sheet_rows.specs.Reading.{row_read}

@@ -1,7 +1,5 @@
 -- Each interval that a reply prints encloses the exact value of its name's expanded formula.
-use Rattle.std.specs.Prelude.{◌≡◌, ℕ, List, [], ◌∷◌, Option, Some, None, Result, Ok, Err, IfOk, IfSome, refl}
-use Rattle.std.proofs.Common.{sym, ◌∙◌, ap, subst}
-use Rattle.fixed_interval.specs.Interval.{Interval}
+use Rattle.std.specs.Prelude.{◌≡◌, ℕ, List, [], ◌∷◌, Option, Some, None, Ok, Err, IfOk, IfSome, refl}
 use Rattle.sheet_rows.specs.Rows.{Row, Given, Formula}
 use Rattle.sheet_rows.specs.Regular.{IsRegular}
 use Rattle.sheet_values.specs.Evaluations.{evaluation_of}
@@ -13,11 +11,11 @@ use Rattle.answers.specs.declared.command.Query.{Query}
 use Rattle.answers.specs.declared.command.Query.TheVariants.{Value as AskValue, Dump as AskDump}
 use Rattle.script_lines.specs.declared.item.Item.{Item}
 use Rattle.script_lines.specs.Commands.{Read, command_read, IsRegularEdit, IsRegularCommand}
-use Rattle.edit_session.specs.Replies.{quantity_of, quantities, value_reply, reply_to}
+use Rattle.edit_session.specs.Replies.{quantities, value_reply, reply_to}
 use Rattle.edit_session.specs.Machine.{State, initial, kept_as, step, reply_at}
 use Rattle.edit_session.specs.Calculable.{IsCalculable, IsSound, RowHasExponents, EditHasExponents, CommandHasExponents}
 use Rattle.edit_session.proofs.Soundness.{initial_sound, step_sound, kept-sound}
-use Rattle.gum_cli.specs.Script.{replies_of, state_behind, IsSoundReply, asked, IsSoundOn, IsSoundLine, AreSound}
+use Rattle.gum_cli.specs.Script.{state_behind, IsSoundReply, asked, IsSoundOn, IsSoundLine, AreSound}
 use Rattle.script_lines.proofs.RegularLines.{read_regular}
 
 -- ---- regular rows have exponents in range

@@ -15,5 +15,5 @@ returns-in-Some g c =
     subst (λ o. IfSome o (λ item. items_of c.args.splitter ≡ item ∷ [])) c.in-Some.is c.in_ok-item.ensures.some in
     on_ok c.answer_item.result
     (λ h. sym (append-nil c.answer_item.new.replies.items) ∙ h
-        ∙ ap (λ items. c.args.replies.now.items ++ text_of_replies (replies_to c.args.session.now items)) (sym last))
+    ∙ ap (λ items. c.args.replies.now.items ++ text_of_replies (replies_to c.args.session.now items)) (sym last))
     (c.answer_item.ensures.replies [])

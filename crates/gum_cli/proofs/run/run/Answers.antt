@@ -1,4 +1,4 @@
-use Rattle.std.proofs.Common.{[], rules}
+use Rattle.std.proofs.Common.{rules}
 use Rattle.script_lines.specs.Items.{items_of}
 use Rattle.gum_cli.proofs.Sound.{all_sound}
 use Rattle.gum_cli.proofs.run.run.Goals as goal
