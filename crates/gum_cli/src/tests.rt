@@ -16,6 +16,48 @@ const FIRST: &[u8; 38] = b"given X 5 std 1\nlet Y = X + 2\nvalue Y\n";
 
 const FIRST_REPLIES: &[u8; 18] = b"ok\nok\nvalue Y 7 7\n";
 
+// Three rows and a mark, and what a dump of them prints.
+const SHEET: &[u8; 53] = b"given X 5 std 1\nlet Y = X + 2\ngiven x 1 exact\nmark M\n";
+
+const DUMP: &[u8; 49] = b"given X 5 std 1\nlet Y = X + 2\ngiven x 1 exact\nok\n";
+
+// Lines that are refused on this sheet, and why.
+const REFUSED: [(&str, &str); 27] = [
+    ("let Z = X +", "syntax 12"),
+    ("mark X.Y", "syntax 6"),
+    ("given Z 5. std 1", "not_number 9"),
+    ("given Z 1e999 exact", "number_range 9"),
+    ("let Z = f(X)", "unknown_function 9"),
+    ("let Z = X^10", "bad_power 11"),
+    (
+        "let Z = (((((((((((((((((((((((((((((((((((((((((((((((((((((((((((((((((",
+        "too_deep 73",
+    ),
+    (
+        "let Z = 1+1+1+1+1+1+1+1+1+1+1+1+1+1+1+1+1+1+1+1+1+1+1+1+1+1+1+1+1+1+1+1+1+1+1+1+1+1+1+1+1+1+1+1+1+1+1+1+1+1+1+1+1+1+1+1+1+1+1+1+1+1+1+1+1+1+1+1+1+1+1+1+1+1+1+1+1+1+1+1+1+1+1+1+1+1+1+1+1+1+1+1+1+1+1+1+1+1+1+1+1+1+1+1+1+1+1+1+1+1+1+1+1+1+1+1+1+1+1+1+1+1+1+1+1+1+1+1+1",
+        "too_many_nodes 265",
+    ),
+    ("given Z 1 std -1", "negative"),
+    ("given Z 1 rect 1", "not_built"),
+    ("table T", "not_built"),
+    ("var X", "not_built"),
+    ("given X 1 exact", "duplicate X"),
+    ("let x = Q", "duplicate x"),
+    ("let Z = Q * R", "unknown Q"),
+    ("set let Q = 1", "unknown Q"),
+    ("remove y", "unknown y"),
+    ("let Z = Z", "not_earlier Z"),
+    ("set let Y = x", "not_earlier x"),
+    ("remove X", "in_use Y"),
+    ("redo", "nothing_to_redo"),
+    ("restore X", "no_mark X"),
+    ("at Y value X", "no_mark Y"),
+    ("at M value y", "no_such_result y"),
+    ("value M", "no_such_result M"),
+    ("value X.Y", "no_such_result X.Y"),
+    ("value X\r", "syntax 8"),
+];
+
 // Takes one byte at a time.
 #[derive(Drop)]
 struct Narrow<'a> {
@@ -158,6 +200,101 @@ fn refuses_lines(rt: HostRuntime) -> Result<(), Fail> {
         b"var X\nvalue T.V\ngiven X 5 rect 1\nvalue\nvalue X Y\n"
             => b"refused not_built\nrefused no_such_result T.V\nrefused not_built\nrefused syntax 6\nrefused syntax 9\n",
     }
+    Ok(())
+}
+
+// A dump is the same before and behind each refused line.
+#[test]
+fn refusals_leave_the_sheet(rt: HostRuntime) -> Result<(), Fail> {
+    let mut script = SHEET.to_vec(rt.alloc())?;
+    let mut wanted = b"ok\nok\nok\nok\n".to_vec(rt.alloc())?;
+    for (line, refusal) in REFUSED {
+        script.extend_from_slice(line.as_bytes())?;
+        script.extend_from_slice(b"\ndump\n")?;
+        wanted.extend_from_slice(b"refused ")?;
+        wanted.extend_from_slice(refusal.as_bytes())?;
+        wanted.extend_from_slice(b"\n")?;
+        wanted.extend_from_slice(DUMP)?;
+    }
+    let (status, replies) = replies_to(&rt, "run", &script)?;
+    assert_eq!(rt; status, Status::Done);
+    assert_eq!(rt; replies.as_slice(), wanted.as_slice());
+    Ok(())
+}
+
+// A row's kind changes while others use it, an edit empties the future, and a mark may have a row's name.
+#[test]
+fn answers_edits(rt: HostRuntime) -> Result<(), Fail> {
+    assert_replies! { rt;
+        b"given X 5 std 1\nlet Z = 1/(X-5)\nvalue Z\nset given X 6 std 1\nvalue Z\nset let Z = 2^3\nremove X\nvalue Z\n"
+            => b"ok\nok\nfault zero_divisor Z\nok\nvalue Z 1 1\nok\nok\nvalue Z 8 8\n",
+        b"given X 5 std 1\nlet Y = X+2\ngiven Z 1 exact\nremove X\nremove Y\nundo\ndump\nundo\nundo\nundo\nundo\n"
+            => b"ok\nok\nok\nrefused in_use Y\nok\nok\ngiven X 5 std 1\nlet Y = X + 2\ngiven Z 1 exact\nok\nok\nok\nok\nrefused nothing_to_undo\n",
+        b"given X 5 std 1\nmark A\nset given X 6 std 1\nvalue X\nat A value X\nrestore A\nvalue X\nundo\nvalue X\nredo\nvalue X\nredo\nrestore B\n"
+            => b"ok\nok\nok\nvalue X 6 6\nvalue X 5 5\nok\nvalue X 5 5\nok\nvalue X 6 6\nok\nvalue X 5 5\nrefused nothing_to_redo\nrefused no_mark B\n",
+        b"given X 5 std 1 # ohm\r\n\r\nvalue X" => b"ok\nvalue X 5 5\n",
+        b"let X = 5\nlet Y = X\nset given X 7 exact\nmark X\nundo\nset let X = 6\nredo\nvalue Y\nat X value Y\n"
+            => b"ok\nok\nok\nok\nok\nok\nrefused nothing_to_redo\nvalue Y 6 6\nvalue Y 7 7\n",
+    }
+    Ok(())
+}
+
+#[test]
+fn keeps_sixteen_marks(rt: HostRuntime) -> Result<(), Fail> {
+    let mut script = Vec::new(rt.alloc());
+    let mut wanted = Vec::new(rt.alloc());
+    for letter in b"ABCDEFGHIJKLMNOP" {
+        script.extend_from_slice(b"mark ")?;
+        script.push(*letter)?;
+        script.push(b'\n')?;
+        wanted.extend_from_slice(b"ok\n")?;
+    }
+    script.extend_from_slice(b"mark Q\nmark A\n")?;
+    wanted.extend_from_slice(b"refused marks_full\nok\n")?;
+    let (status, replies) = replies_to(&rt, "run", &script)?;
+    assert_eq!(rt; status, Status::Done);
+    assert_eq!(rt; replies.as_slice(), wanted.as_slice());
+    Ok(())
+}
+
+// As many steps back as are kept, and one more.
+#[test]
+fn keeps_256_steps(rt: HostRuntime) -> Result<(), Fail> {
+    let mut script = b"given X 0 exact\n".to_vec(rt.alloc())?;
+    let mut wanted = b"ok\n".to_vec(rt.alloc())?;
+    for _ in 0..256 {
+        script.extend_from_slice(b"set given X 1 exact\n")?;
+        wanted.extend_from_slice(b"ok\n")?;
+    }
+    for _ in 0..256 {
+        script.extend_from_slice(b"undo\n")?;
+        wanted.extend_from_slice(b"ok\n")?;
+    }
+    script.extend_from_slice(b"undo\nvalue X\n")?;
+    wanted.extend_from_slice(b"refused nothing_to_undo\nvalue X 0 0\n")?;
+    let (status, replies) = replies_to(&rt, "run", &script)?;
+    assert_eq!(rt; status, Status::Done);
+    assert_eq!(rt; replies.as_slice(), wanted.as_slice());
+    Ok(())
+}
+
+// Puts a line of this many blanks at the end.
+fn push_blank_line(script: &mut Vec<u8>, blanks: usize) -> Result<(), Fail> {
+    for _ in 0..blanks {
+        script.push(b' ')?;
+    }
+    script.push(b'\n')?;
+    Ok(())
+}
+
+#[test]
+fn refuses_long_lines(rt: HostRuntime) -> Result<(), Fail> {
+    let mut script = Vec::new(rt.alloc());
+    push_blank_line(&mut script, 65_536)?;
+    push_blank_line(&mut script, 65_537)?;
+    let (status, replies) = replies_to(&rt, "run", &script)?;
+    assert_eq!(rt; status, Status::Done);
+    assert_eq!(rt; replies.as_slice(), b"refused long_line\n".as_slice());
     Ok(())
 }
 
