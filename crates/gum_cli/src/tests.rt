@@ -55,7 +55,7 @@ const REFUSED: [(&str, &str); 27] = [
     ("at M value y", "no_such_result y"),
     ("value M", "no_such_result M"),
     ("value X.Y", "no_such_result X.Y"),
-    ("value X\r", "syntax 8"),
+    ("value X\r\r", "syntax 7"),
 ];
 
 // Takes one byte at a time.
