@@ -1,7 +1,7 @@
 -- What an accepted edit makes of a sheet whose values can be worked out is one too.
 use Rattle.std.specs.Prelude.{◌≡◌, ℕ, Bool, true, false, List, [], ◌∷◌, Ok, refl}
 use Rattle.std.proofs.Common.{sym, subst}
-use Rattle.sheet_values.specs.Model.{AllHaveExponents}
+use Rattle.value_cache.specs.Model.{AllHaveExponents}
 use Rattle.sheet_rows.specs.Rows.{Row, Given, Formula, name_of}
 use Rattle.sheet_rows.specs.Regular.{IsRegular}
 use Rattle.sheet_rows.specs.Sheets.{IsAccepted, is_named, added, set_row, removed}

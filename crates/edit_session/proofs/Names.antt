@@ -7,8 +7,8 @@ use Rattle.sheet_rows.specs.Rows.{Row, Given, Formula, name_of}
 use Rattle.sheet_rows.specs.Sheets.{has_row, has_quantity, are_known}
 use Rattle.sheet_rows.proofs.Conditions.{all_none}
 use Rattle.sheet_rows.proofs.Verdicts.{quantity_is_row, list_all_agree}
-use Rattle.sheet_values.specs.Quantities.{is_there}
-use Rattle.sheet_values.specs.Cells.{UsesOnly}
+use Rattle.value_cache.specs.Quantities.{is_there}
+use Rattle.value_cache.specs.Cells.{UsesOnly}
 use Rattle.edit_session.specs.Replies.{quantity_of, quantities}
 
 both : (a b : Bool) → (a ≡ true → b ≡ true) → (b ≡ true → a ≡ true) → a ≡ b

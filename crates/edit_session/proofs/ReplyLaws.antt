@@ -6,14 +6,14 @@ use Rattle.std.proofs.lemmas.List.{append_assoc, append-nil, map-append}
 use Rattle.fixed_interval.specs.Interval.{Interval}
 use Rattle.sheet_rows.specs.Rows.{Row, Given, Formula, name_of}
 use Rattle.sheet_rows.specs.Sheets.{has_row}
-use Rattle.sheet_values.specs.Quantities.{is_there}
-use Rattle.sheet_values.specs.Evaluations.{evaluation_of}
-use Rattle.sheet_values.specs.Cells.{IsStanding}
-use Rattle.sheet_values.specs.Model.{HasValueIn}
-use Rattle.sheet_values.specs.declared.evaluation.Evaluation.{Evaluation}
-use Rattle.sheet_values.specs.declared.evaluation.Evaluation.TheVariants.{Enclosed, Fault}
-use Rattle.sheet_values.proofs.Sound.{values_enclosed}
-use Rattle.sheet_values.proofs.Standing.{standing_empty, standing-added}
+use Rattle.value_cache.specs.Quantities.{is_there}
+use Rattle.value_cache.specs.Evaluations.{evaluation_of}
+use Rattle.value_cache.specs.Cells.{IsStanding}
+use Rattle.value_cache.specs.Model.{HasValueIn}
+use Rattle.value_cache.specs.declared.evaluation.Evaluation.{Evaluation}
+use Rattle.value_cache.specs.declared.evaluation.Evaluation.TheVariants.{Enclosed, Fault}
+use Rattle.value_cache.proofs.Sound.{values_enclosed}
+use Rattle.value_cache.proofs.Standing.{standing_empty, standing-added}
 use Rattle.answers.specs.declared.fault.AskFault.TheVariants.{NoSuchResult}
 use Rattle.answers.specs.declared.reply.Answer.TheVariants.{Value}
 use Rattle.answers.specs.declared.reply.Reply.TheVariants.{Ask, Said}

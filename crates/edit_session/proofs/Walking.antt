@@ -5,10 +5,10 @@ use Rattle.std.proofs.Common.{sym, ◌∙◌, ap, ap₂, subst, get_or, drop-con
 use Rattle.std.proofs.lemmas.List.{drop_all, append_assoc, append-nil, map-append}
 use Rattle.sheet_rows.specs.Rows.{Row, Given, Formula, name_of}
 use Rattle.sheet_rows.specs.Sheets.{has_row, are_named_once, are_known, are_earlier}
-use Rattle.sheet_values.specs.Quantities.{Quantity, is_there}
-use Rattle.sheet_values.specs.Model.{AllHaveExponents}
-use Rattle.sheet_values.specs.Cells.{Cells, Keeps}
-use Rattle.sheet_values.proofs.Adding.{keeps_empty, unknown_same}
+use Rattle.value_cache.specs.Quantities.{Quantity, is_there}
+use Rattle.value_cache.specs.Model.{AllHaveExponents}
+use Rattle.value_cache.specs.Cells.{Cells, Keeps}
+use Rattle.value_cache.proofs.Adding.{keeps_empty, unknown_same}
 use Rattle.edit_session.specs.Replies.{quantity_of, quantities}
 use Rattle.edit_session.specs.Calculable.{IsCalculable}
 use Rattle.edit_session.specs.Walks.{KnowsUses, IsNext, Follow, IsWalked}

@@ -1,7 +1,7 @@
 -- Sheets whose values can be worked out: they are well formed, and the exponents in their formulas are from
 -- -9 to 9 and not 0.
 use Rattle.std.specs.Prelude.{ℕ, List, [], ◌∷◌}
-use Rattle.sheet_values.specs.Model.{BodyHasExponents, AllHaveExponents}
+use Rattle.value_cache.specs.Model.{BodyHasExponents, AllHaveExponents}
 use Rattle.sheet_rows.specs.Rows.{Row}
 use Rattle.sheet_rows.specs.Sheets.{IsWellFormed}
 use Rattle.answers.specs.Commands.{Edit, Add, Set, Remove, Command, Change, Undo, Redo, Mark, Restore, Ask, AskAt}

@@ -1,10 +1,10 @@
 -- The reply of a sheet to a query.
 use Rattle.std.specs.Prelude.{ℕ, List, map, Option, None, Some}
 use Rattle.sheet_rows.specs.Rows.{Row, Given, Formula}
-use Rattle.sheet_values.specs.Quantities.{Input, Function, Quantity}
-use Rattle.sheet_values.specs.Evaluations.{evaluation_of}
-use Rattle.sheet_values.specs.declared.evaluation.Evaluation.{Evaluation}
-use Rattle.sheet_values.specs.declared.evaluation.Evaluation.TheVariants.{Enclosed, Fault}
+use Rattle.value_cache.specs.Quantities.{Input, Function, Quantity}
+use Rattle.value_cache.specs.Evaluations.{evaluation_of}
+use Rattle.value_cache.specs.declared.evaluation.Evaluation.{Evaluation}
+use Rattle.value_cache.specs.declared.evaluation.Evaluation.TheVariants.{Enclosed, Fault}
 use Rattle.answers.specs.declared.command.Query.{Query}
 use Rattle.answers.specs.declared.command.Query.TheVariants.{Value as AskValue, Dump as AskDump}
 use Rattle.answers.specs.declared.fault.AskFault.TheVariants.{NoSuchResult}

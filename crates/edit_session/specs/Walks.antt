@@ -2,8 +2,8 @@
 use Rattle.std.specs.Prelude.{◌≡◌, false, None, not, find, is_some, List, [], ◌∷◌, ◌++◌}
 use Rattle.formula_ast.specs.Trees.{names_of}
 use Rattle.sheet_rows.specs.Rows.{Row, Given, Formula, name_of}
-use Rattle.sheet_values.specs.Quantities.{is_there}
-use Rattle.sheet_values.specs.Cells.{Cells, kept, UsesOnly, Keeps}
+use Rattle.value_cache.specs.Quantities.{is_there}
+use Rattle.value_cache.specs.Cells.{Cells, kept, UsesOnly, Keeps}
 use Rattle.edit_session.specs.Replies.{quantity_of, quantities}
 use Rattle.edit_session.specs.Calculable.{RowHasExponents}
 

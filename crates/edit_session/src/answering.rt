@@ -11,7 +11,7 @@ use decimal18::OutOfMemory;
 use fixed_interval::Steps;
 use formula_ast::Name;
 use sheet_rows::Sheet;
-use sheet_values::Evaluation;
+use value_cache::Evaluation;
 use std::alloc::Global;
 use std::sync::ledger::Ledger;
 

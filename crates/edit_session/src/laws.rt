@@ -5,7 +5,7 @@ ghost use Rattle.std.specs.Prelude.{◌≡◌, ◌↔◌, ℕ, false, List};
 ghost use Rattle.fixed_interval.specs.Interval.{Interval};
 ghost use Rattle.sheet_rows.specs.Rows.{Row};
 ghost use Rattle.sheet_rows.specs.Sheets.{IsWellFormed, has_row};
-ghost use Rattle.sheet_values.specs.Model.{HasValueIn};
+ghost use Rattle.value_cache.specs.Model.{HasValueIn};
 ghost use Rattle.answers.specs.Commands.{Command};
 ghost use Rattle.answers.specs.declared.command.Query.TheVariants.{Value as AskValue};
 ghost use Rattle.answers.specs.declared.fault.AskFault.TheVariants.{NoSuchResult};

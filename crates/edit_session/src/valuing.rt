@@ -1,8 +1,8 @@
 ghost use Rattle.std.specs.Prelude.{◌≡◌, List, [], ◌∷◌, ◌++◌, false, IfOk, OnOk};
 ghost use Rattle.sheet_rows.specs.Rows.{row_of, name_of};
 ghost use Rattle.sheet_rows.specs.Places.{sheet_of};
-ghost use Rattle.sheet_values.specs.Quantities.{Quantity, is_there};
-ghost use Rattle.sheet_values.specs.Cells.{Keeps};
+ghost use Rattle.value_cache.specs.Quantities.{Quantity, is_there};
+ghost use Rattle.value_cache.specs.Cells.{Keeps};
 ghost use Rattle.edit_session.specs.Replies.{quantity_of, quantities};
 ghost use Rattle.edit_session.specs.Calculable.{IsCalculable, RowHasExponents};
 ghost use Rattle.edit_session.specs.Walks.{KnowsUses};
@@ -11,7 +11,7 @@ use decimal18::OutOfMemory;
 use fixed_interval::Steps;
 use formula_ast::names;
 use sheet_rows::{Row, Sheet};
-use sheet_values::Values;
+use value_cache::Values;
 use std::alloc::Global;
 use std::sync::ledger::Ledger;
 

@@ -3,7 +3,7 @@ use Rattle.std.specs.Prelude.{◌≡◌, ℕ, ◌≤◌, List, length, Option, S
 use Rattle.std.proofs.Common.{arith, ap, subst, sym, ◌∙◌}
 use Rattle.std.specs.Fmt.{digits}
 use Rattle.sheet_rows.specs.Reading.{row_read}
-use Rattle.sheet_values.specs.Evaluations.{evaluation_of}
+use Rattle.value_cache.specs.Evaluations.{evaluation_of}
 use Rattle.script_lines.specs.Commands.{line_read}
 use Rattle.gum_cli.specs.Script.{out}
 use Rattle.gum_cli.specs.Run.{RoomForReplies}

@@ -2,10 +2,10 @@
 use Rattle.std.specs.Prelude.{◌≡◌, ℕ, List, [], ◌∷◌, Option, Some, None, Ok, Err, IfOk, IfSome, refl}
 use Rattle.sheet_rows.specs.Rows.{Row, Given, Formula}
 use Rattle.sheet_rows.specs.Regular.{IsRegular}
-use Rattle.sheet_values.specs.Evaluations.{evaluation_of}
-use Rattle.sheet_values.specs.declared.evaluation.Evaluation.{Evaluation}
-use Rattle.sheet_values.specs.declared.evaluation.Evaluation.TheVariants.{Enclosed, Fault}
-use Rattle.sheet_values.proofs.Sound.{values_enclosed}
+use Rattle.value_cache.specs.Evaluations.{evaluation_of}
+use Rattle.value_cache.specs.declared.evaluation.Evaluation.{Evaluation}
+use Rattle.value_cache.specs.declared.evaluation.Evaluation.TheVariants.{Enclosed, Fault}
+use Rattle.value_cache.proofs.Sound.{values_enclosed}
 use Rattle.answers.specs.Commands.{Edit, Add, Set, Remove, Command, Change, Undo, Redo, Mark, Restore, Ask, AskAt}
 use Rattle.answers.specs.declared.command.Query.{Query}
 use Rattle.answers.specs.declared.command.Query.TheVariants.{Value as AskValue, Dump as AskDump}

@@ -1,7 +1,7 @@
 -- What a script means: its lines, their replies, and the bytes that are written.
 use Rattle.std.specs.Prelude.{ℕ, List, [], ◌∷◌, ◌++◌, Option, Some, None, Ok, Err}
 use Rattle.sheet_rows.specs.Rows.{Row}
-use Rattle.sheet_values.specs.Model.{HasValueIn}
+use Rattle.value_cache.specs.Model.{HasValueIn}
 use Rattle.answers.specs.Commands.{Command, Change, Undo, Redo, Mark, Restore, Ask, AskAt}
 use Rattle.answers.specs.declared.reply.Answer.{Answer}
 use Rattle.answers.specs.declared.reply.Answer.TheVariants.{Value, Dump, ValueFault}

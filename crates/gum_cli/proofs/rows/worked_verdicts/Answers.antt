@@ -14,7 +14,7 @@ use Rattle.fixed_interval.specs.Powers.{power_span}
 use Rattle.formula_ast.specs.Reading.{reading_of}
 use Rattle.formula_box.specs.Values.{span_of}
 use Rattle.sheet_rows.specs.Reading.{row_read}
-use Rattle.sheet_values.specs.Evaluations.{evaluation_of}
+use Rattle.value_cache.specs.Evaluations.{evaluation_of}
 use Rattle.script_lines.specs.Commands.{line_read}
 use Rattle.gum_cli.proofs.rows.worked_verdicts.Goals as goal
 

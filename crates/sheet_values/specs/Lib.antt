@@ -1,4 +1,0 @@
-pub mod Quantities
-pub mod Evaluations
-pub mod Cells
-pub mod Model

@@ -1,0 +1,5 @@
+pub mod Quantities
+pub mod Evaluations
+pub mod Standing
+pub mod Cells
+pub mod Model

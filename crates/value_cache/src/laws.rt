@@ -1,0 +1,28 @@
+ghost use Rattle.std.specs.Prelude.{◌≡◌, ℕ, Bool, List, Some, find, length, map};
+ghost use Rattle.fixed_interval.specs.Interval.{Interval};
+ghost use Rattle.formula_ast.specs.Trees.{distinct};
+ghost use Rattle.value_cache.specs.Quantities.{Quantity, body_of};
+ghost use Rattle.value_cache.specs.Evaluations.{evaluation_of};
+ghost use Rattle.value_cache.specs.Model.{AllHaveExponents, HasValueIn};
+ghost use Rattle.value_cache.specs.declared.evaluation.Evaluation.TheVariants.{Enclosed};
+
+/// Where a quantity has a span, its expanded formula has a value, and the span encloses it.
+pub fn values_are_enclosed<K>()
+    ensures { (same : K → K → Bool) (qs : List (Quantity K)) → AllHaveExponents qs → (n : K) (s : Interval)
+        → evaluation_of same qs n ≡ Some (Enclosed s) → HasValueIn same qs n s }
+{}
+
+/// The order in which quantities are listed changes no evaluation: lists of one length that say the same
+/// of each key give the same evaluations.
+pub fn order_changes_nothing<K>()
+    ensures { (same : K → K → Bool) (qs others : List (Quantity K)) → length qs ≡ length others
+        → ((n : K) → body_of same qs n ≡ body_of same others n)
+        → (n : K) → evaluation_of same qs n ≡ evaluation_of same others n }
+{}
+
+/// The first quantity with a property for which one of the names stands is the same among all uses and
+/// among the distinct names.
+pub fn distinct_names_find_the_same<K>()
+    ensures { (p : K → Bool) (key : List ℕ → K) (ns : List (List ℕ))
+        → find p (map key (distinct ns)) ≡ find p (map key ns) }
+{}

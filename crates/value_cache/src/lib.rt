@@ -1,0 +1,18 @@
+//! The values of quantities: the span of each, or the fault in its place, and the exact value of its
+//! expanded formula, which the span encloses.
+//!
+//! The definitions in `specs/` are over any kind of key and over quantities in any order. They say what
+//! the right evaluation of a quantity is for every body that finds one. [`Values`] is the first such
+//! body: it finds the evaluations of a sheet's quantities by their names, row by row.
+#![tactic(auto)]
+
+mod evaluation;
+mod laws;
+#[cfg(test)]
+mod tests;
+mod values;
+
+pub use decimal18::OutOfMemory;
+pub use evaluation::Evaluation;
+pub use laws::{distinct_names_find_the_same, order_changes_nothing, values_are_enclosed};
+pub use values::Values;
