@@ -1,5 +1,5 @@
 -- What is kept of the evaluations, with one quantity more.
-use Rattle.std.specs.Prelude.{◌≡◌, ℕ, Bool, true, false, not, if◌then◌else◌, List, [], ◌∷◌, ◌++◌, map, find, is_some, bytes_eq, Some, None, Result, Ok, Err, OnOk, refl}
+use Rattle.std.specs.Prelude.{◌≡◌, ℕ, Bool, true, false, not, if◌then◌else◌, List, [], ◌∷◌, ◌++◌, find, is_some, bytes_eq, Some, None, Result, Ok, Err, OnOk, refl}
 use Rattle.std.proofs.Common.{sym, ◌∙◌, ap}
 use Rattle.std.proofs.lemmas.List.{map-id}
 use Rattle.std.proofs.lemmas.Slice.Eq.{bytes_eq-Decides}
@@ -8,7 +8,7 @@ use Rattle.exact_law.specs.Model.{IsSameTest}
 use Rattle.decimal18.specs.Bound.{Bound}
 use Rattle.fixed_interval.specs.Interval.{point_span}
 use Rattle.formula_ast.specs.Trees.{Tree, uses, names_of}
-use Rattle.value_cache.specs.Quantities.{Input, Function, Quantity, by_names, is_there, first_unknown}
+use Rattle.value_cache.specs.Quantities.{Input, Quantity, by_names, is_there, first_unknown}
 use Rattle.value_cache.specs.Evaluations.{Found, evaluation_of_body, evaluation_of_formula, evaluation_of}
 use Rattle.value_cache.specs.Standing.{UsesOnly, Keeps, with_quantity}
 use Rattle.value_cache.specs.Cells.{Cells, kept}

@@ -1,5 +1,5 @@
 -- Quantities each of which uses quantities that are there, and the evaluations that are kept of them.
-use Rattle.std.specs.Prelude.{◌≡◌, ℕ, ◌≤◌, Bool, List, [], ◌∷◌, ◌++◌, length, Option, Some, None, is_some}
+use Rattle.std.specs.Prelude.{◌≡◌, ℕ, ◌≤◌, Bool, List, [], ◌∷◌, ◌++◌, length, Some, None, is_some}
 use Rattle.value_cache.specs.Quantities.{Body, Quantity, body_of, is_there, first_unknown, used_by}
 use Rattle.value_cache.specs.Evaluations.{Found, evaluation_through, evaluation_of}
 
