@@ -2,3 +2,8 @@ pub mod OrderLaws
 pub mod Quotients
 pub mod Ring
 pub mod Comparisons
+pub mod Strict
+pub mod Signs
+pub mod Extremes
+pub mod PowerLaws
+pub mod SumLaws

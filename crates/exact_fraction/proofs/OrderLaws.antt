@@ -29,6 +29,13 @@ pub ≤ℚ_by : (x y d : ℚ) → x +ℚ d ≡ y → of_ℤ (pos 0) ≤ℚ d →
 pub ≤ℚ-of_difference : (x y : ℚ) → of_ℤ (pos 0) ≤ℚ y +ℚ neg_ℚ x → x ≤ℚ y
 ≤ℚ-of_difference x y h = ≤ℚ_by x y (y +ℚ neg_ℚ x) (ring (x ∷ y ∷ []) (x0 :+ (x1 :- x0)) x1 refl) h
 
+-- a difference is what makes up the sum
+pub ≡-difference : (d x y : ℚ) → (d ≡ x +ℚ neg_ℚ y) ↔ (d +ℚ y ≡ x)
+≡-difference d x y = (
+  λ h. ap (λ t. t +ℚ y) h ∙ ring (x ∷ y ∷ []) ((x0 :- x1) :+ x1) x0 refl,
+  λ h. ring (d ∷ y ∷ []) x0 ((x0 :+ x1) :- x1) refl ∙ ap (λ t. t +ℚ neg_ℚ y) h,
+)
+
 -- ---- what is not negative
 pub +ℚ-not_negative : (x y : ℚ) → of_ℤ (pos 0) ≤ℚ x → of_ℤ (pos 0) ≤ℚ y → of_ℤ (pos 0) ≤ℚ x +ℚ y
 +ℚ-not_negative x y h k = ≤ℚ_trans _ x _ h (≤ℚ_by x (x +ℚ y) y refl k)

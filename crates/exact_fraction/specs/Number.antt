@@ -1,6 +1,6 @@
 -- The numbers that contracts speak of: fractions up to equality, so that equality of numbers is `≡`.
 -- Each operation is that of the fractions, with the lemmas that equal fractions give equal answers.
-use Rattle.std.specs.Prelude.{◌≡◌, Bool, true, ℤ}
+use Rattle.std.specs.Prelude.{◌≡◌, Bool, true, false, if◌then◌else◌, ℤ}
 use Rattle.std.proofs.Math.Bool.{Bool-set}
 use lib.IntN.{ℤ_set}
 use std.Quotient.{cls, eq/, /_set, /_rec, /_rec₂}
@@ -35,6 +35,11 @@ unfoldable pub ◌*ℚ◌ : ℚ → ℚ → ℚ
 unfoldable pub neg_ℚ : ℚ → ℚ
 neg_ℚ = /_rec /_set (λ a. cls (negated a)) (λ a b h. eq/ _ _ (negated-same a b h))
 
+-- the difference
+infixl 6 ◌-ℚ◌
+abbrev pub ◌-ℚ◌ : ℚ → ℚ → ℚ
+x -ℚ y = x +ℚ neg_ℚ y
+
 -- 1 divided by the number; for 0 it is 0, and means nothing
 unfoldable pub inv_ℚ : ℚ → ℚ
 inv_ℚ = /_rec /_set (λ a. cls (inverse a)) (λ a b h. eq/ _ _ (inverse-same a b h))
@@ -56,6 +61,19 @@ is_at_most_ℚ = /_rec₂ Bool-set is_at_most is_at_most-same is_at_most-same_ri
 infix 4 ◌≤ℚ◌
 pub record ◌≤ℚ◌ (x y : ℚ) : Type 0 where
   pub holds : is_at_most_ℚ x y ≡ true
+
+-- x is below y
+infix 4 ◌<ℚ◌
+pub record ◌<ℚ◌ (x y : ℚ) : Type 0 where
+  pub not_above : is_at_most_ℚ y x ≡ false
+
+-- the lesser of two numbers
+unfoldable pub min_ℚ : ℚ → ℚ → ℚ
+min_ℚ x y = if is_at_most_ℚ x y then x else y
+
+-- the greater of two numbers
+unfoldable pub max_ℚ : ℚ → ℚ → ℚ
+max_ℚ x y = if is_at_most_ℚ x y then y else x
 
 -- the greatest whole number not above x
 unfoldable pub floor_ℚ : ℚ → ℤ

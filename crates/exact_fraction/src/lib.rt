@@ -15,9 +15,11 @@ mod ratio;
 #[cfg(test)]
 mod tests;
 
-ghost use Rattle.std.specs.Prelude.{◌≡◌, ◌≢◌, ◌↔◌, ◌⊎◌, IsTrue, ℤ, pos, negsuc, ◌+ℤ◌, ◌*ℤ◌, neg_ℤ, ◌≤ℤ◌};
+ghost use Rattle.std.specs.Prelude.{◌≡◌, ◌≢◌, ◌↔◌, ◌⊎◌, ◌+◌, IsTrue, ℕ, suc, ℤ, pos, negsuc, ◌+ℤ◌, ◌*ℤ◌, neg_ℤ, ◌≤ℤ◌, List, [], ◌∷◌};
 ghost use Rattle.exact_fraction.specs.Fraction.{Fraction, ◌≈◌, ◌≼◌, ◌⊕◌, ◌⊗◌, negated, inverse};
-ghost use Rattle.exact_fraction.specs.Number.{ℚ, number_of, of_ℤ, ◌+ℚ◌, ◌*ℚ◌, ◌/ℚ◌, neg_ℚ, inv_ℚ, is_zero_ℚ, is_at_most_ℚ, ◌≤ℚ◌, floor_ℚ};
+ghost use Rattle.exact_fraction.specs.Number.{ℚ, number_of, of_ℤ, ◌+ℚ◌, ◌*ℚ◌, ◌/ℚ◌, neg_ℚ, inv_ℚ, is_zero_ℚ, is_at_most_ℚ, ◌≤ℚ◌, floor_ℚ, ◌-ℚ◌, ◌<ℚ◌, min_ℚ, max_ℚ};
+ghost use Rattle.exact_fraction.specs.Powers.{power, whole_power};
+ghost use Rattle.exact_fraction.specs.Sums.{total, below};
 
 pub use ratio::Ratio;
 
@@ -91,6 +93,34 @@ pub fn sums_and_products_respect_the_order()
     // a positive number is one that is not negative and not 0
     ensures inverse { (x : ℚ) → of_ℤ (pos 0) ≤ℚ x → x ≢ of_ℤ (pos 0) → of_ℤ (pos 0) ≤ℚ inv_ℚ x }
     ensures quotient { (x y z : ℚ) → of_ℤ (pos 0) ≤ℚ z → z ≢ of_ℤ (pos 0) → (x ≤ℚ y /ℚ z) ↔ (x *ℚ z ≤ℚ y) }
+{}
+
+/// A difference is what makes up the sum, one number is below another where the other is not at most
+/// it, the lesser of two is the greatest number that is at most both, and the greater is the least that
+/// both are at most.
+pub fn differences_and_extremes()
+    ensures difference { (d x y : ℚ) → (d ≡ x -ℚ y) ↔ (d +ℚ y ≡ x) }
+    ensures below { (x y : ℚ) → (x <ℚ y) ↔ ¬ (y ≤ℚ x) }
+    ensures lesser { (x y z : ℚ) → (z ≤ℚ min_ℚ x y) ↔ ((z ≤ℚ x) × (z ≤ℚ y)) }
+    ensures greater { (x y z : ℚ) → (max_ℚ x y ≤ℚ z) ↔ ((x ≤ℚ z) × (y ≤ℚ z)) }
+{}
+
+/// The first power of a number is itself and the power by 0 is 1, a power by a sum is the product of the
+/// powers, and one by a negative number is the inverse.
+pub fn powers_add_their_exponents()
+    ensures zeroth { (x : ℚ) → power x 0 ≡ of_ℤ (pos 1) }
+    ensures first { (x : ℚ) → power x 1 ≡ x }
+    ensures sum { (x : ℚ) (j k : ℕ) → power x (j + k) ≡ power x j *ℚ power x k }
+    ensures whole { (x : ℚ) (n : ℕ) → whole_power x (pos n) ≡ power x n }
+    ensures negative { (x : ℚ) (n : ℕ) → whole_power x (negsuc n) ≡ inv_ℚ (power x (suc n)) }
+{}
+
+/// A sum over a list, and one over the whole numbers below a bound, grow by one term after another.
+pub fn sums_grow_by_terms<A>()
+    ensures nothing { (f : A → ℚ) → total f [] ≡ of_ℤ (pos 0) }
+    ensures one_more { (f : A → ℚ) (x : A) (xs : List A) → total f (x ∷ xs) ≡ f x +ℚ total f xs }
+    ensures below_zero { (f : ℕ → ℚ) → total f (below 0) ≡ of_ℤ (pos 0) }
+    ensures below_next { (f : ℕ → ℚ) (n : ℕ) → total f (below (suc n)) ≡ f n +ℚ total f (below n) }
 {}
 
 /// The whole numbers are among the numbers, with their sums, products, negatives and order.

@@ -4,11 +4,12 @@
 use Rattle.std.specs.Prelude.{◌≡◌, Bool, true, false, cond, not, ◌&&◌, List, [], ◌∷◌, pos, negsuc, refl}
 use Rattle.std.proofs.Common.{sym, ◌∙◌, ap, ap₂}
 use Rattle.std.proofs.lemmas.Bool.{true≢false}
-use Rattle.exact_fraction.specs.Number.{ℚ, of_ℤ, ◌+ℚ◌, ◌*ℚ◌, neg_ℚ, inv_ℚ}
+use Rattle.exact_fraction.specs.Number.{ℚ, of_ℤ, ◌+ℚ◌, ◌*ℚ◌, neg_ℚ, inv_ℚ, ◌-ℚ◌}
 use Rattle.exact_fraction.proofs.Ring.{Whole, ◌:+◌, ◌:*◌, Minus, x0, x1, x2, ring}
-use Rattle.exact_law.specs.Sums.{total, ◌-ℚ◌}
+use Rattle.exact_fraction.specs.Sums.{total}
 use Rattle.exact_law.specs.Model.{Expression, Num, Key, Neg, Add, Sub, Mul, Div, Pow, value, power_slope, slope, is_defined, replaced, Row, IsSameTest, unit, partial, brought, IsBackward, keys, absent, once, uses_only}
-use Rattle.exact_law.proofs.SumLaws.{and_left, and_right, total-same, total-zero, total-plus, total-times, total-times_right, total-swap}
+use Rattle.exact_fraction.proofs.SumLaws.{total-same, total-zero, total-plus, total-times, total-times_right, total-swap}
+use Rattle.exact_law.proofs.Tests.{and_left, and_right}
 
 -- ---- value and derivative of an expression in which keys are replaced: row by row is the expansion
 pub value-replaced : {K L : Type 0} (v : L → ℚ) (s : K → Expression L) (f : Expression K)

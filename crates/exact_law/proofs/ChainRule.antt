@@ -5,7 +5,7 @@ use Rattle.std.proofs.lemmas.Bool.{true≢false}
 use Rattle.exact_fraction.specs.Number.{ℚ, of_ℤ, ◌+ℚ◌}
 use Rattle.exact_fraction.proofs.Ring.{Whole, ◌:+◌, x0, ring}
 use Rattle.exact_law.specs.Model.{Expression, Num, Key, Neg, Add, Sub, Mul, Div, Pow, value, slope, is_defined, replaced, Body, Input, Formula, Row, IsSameTest, body_of, estimate, replaced_body, expanded, unit, exact_value, exact_slope, has_value, body_partial, partial, sweep, IsBackward, keys, absent, once, uses_only, body_uses_only, is_order, AreOf}
-use Rattle.exact_law.proofs.SumLaws.{and_left, and_right}
+use Rattle.exact_law.proofs.Tests.{and_left, and_right}
 use Rattle.exact_law.proofs.Chain.{value-replaced, slope-replaced, is_defined-replaced, along, along-zero, along-once, along-absent, slope-along, AllRows, AllRows-map, IsForward, forward_backward}
 use Rattle.exact_law.proofs.Rows.{unused_key, brought-absent, sweep-brought, order-absent, order-uses, order-rest, of_key, IsExpanded, IsExpanded-rows}
 

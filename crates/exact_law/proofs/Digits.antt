@@ -5,14 +5,15 @@ use Rattle.std.proofs.lemmas.Int.{ints}
 use Rattle.std.proofs.lemmas.Bool.Decides.{nat_tests}
 use std.Quotient.{/_rec, /_rec₂}
 use Rattle.exact_fraction.specs.Fraction.{is_at_most}
-use Rattle.exact_fraction.specs.Number.{ℚ, of_ℤ, ◌+ℚ◌, ◌*ℚ◌, neg_ℚ, inv_ℚ, is_zero_ℚ, is_at_most_ℚ, ◌≤ℚ◌, floor_ℚ}
+use Rattle.exact_fraction.specs.Number.{ℚ, of_ℤ, ◌+ℚ◌, ◌*ℚ◌, neg_ℚ, inv_ℚ, is_zero_ℚ, is_at_most_ℚ, ◌≤ℚ◌, floor_ℚ, ◌<ℚ◌}
 use Rattle.exact_fraction.specs.NumberLaws.{≤ℚ_trans, ≤ℚ_same, ≤ℚ_total, *ℚ_comm, *ℚ-≤ℚ, of_ℤ-≤ℚ, of_ℤ-+, ≤floor_ℚ}
 use Rattle.exact_fraction.proofs.OrderLaws.{≤ℚ_left, ≤ℚ_right, ≤ℚ_by, ≤ℚ_cancel, ≤ℚ-difference, +ℚ-not_negative, *ℚ-not_negative}
 use Rattle.exact_fraction.proofs.Quotients.{≢-is_zero_ℚ, /ℚ-*ℚ}
 use Rattle.exact_fraction.proofs.Ring.{Whole, ◌:+◌, ◌:-◌, ◌:*◌, x0, x1, ring}
-use Rattle.exact_law.specs.Sums.{power, ◌<ℚ◌}
+use Rattle.exact_fraction.specs.Powers.{power}
 use Rattle.exact_law.specs.Rounding.{ten_to, least_root, scaled_square, IsTwoDigits}
-use Rattle.exact_law.proofs.Order.{whole-not_negative, below_not, below_by, below_or_not, ≤ℚ-<ℚ, <ℚ-≤ℚ, below_at_most, times-≤ℚ}
+use Rattle.exact_fraction.proofs.Strict.{below_not, below_by, below_or_not, ≤ℚ-<ℚ, <ℚ-≤ℚ, below_at_most}
+use Rattle.exact_fraction.proofs.Signs.{whole-not_negative, times-≤ℚ}
 use Rattle.exact_law.proofs.RoundingLaws.{next_square, scaled_square-not_negative}
 
 -- ---- the first of rising bounds that is above x

@@ -7,8 +7,8 @@ use Rattle.std.proofs.lemmas.Bool.Decides.{nat_tests}
 use Rattle.exact_fraction.specs.Number.{ℚ, of_ℤ, inv_ℚ, is_at_most_ℚ, ◌≤ℚ◌}
 use Rattle.exact_fraction.specs.NumberLaws.{≤ℚ_trans, *ℚ-≤ℚ, of_ℤ-≤ℚ}
 use Rattle.exact_law.specs.Degrees.{Level, Percent95, Percent9545, Percent99, Factors, row, thousandths, first_row, later_rows, infinite_row, factor_in, row_at, row_of, factor, InfiniteDegrees, FiniteDegrees}
-use Rattle.exact_law.proofs.SumLaws.{and_left, and_right}
-use Rattle.exact_law.proofs.Order.{whole-not_negative, inv-not_negative}
+use Rattle.exact_law.proofs.Tests.{and_left, and_right}
+use Rattle.exact_fraction.proofs.Signs.{whole-not_negative, inv-not_negative}
 
 -- the factors fall from row to row, down to n
 falls : ℕ → Level → Factors → List Factors → Bool

@@ -5,13 +5,13 @@ use Rattle.std.proofs.lemmas.Int.{ints}
 use Rattle.std.proofs.lemmas.Bool.{cases_lt}
 use Rattle.std.proofs.lemmas.Bool.Decides.{nat_tests}
 use std.Quotient.{/_rec}
-use Rattle.exact_fraction.specs.Number.{ℚ, of_ℤ, ◌*ℚ◌, is_zero_ℚ, ◌≤ℚ◌}
+use Rattle.exact_fraction.specs.Number.{ℚ, of_ℤ, ◌*ℚ◌, is_zero_ℚ, ◌≤ℚ◌, ◌<ℚ◌}
 use Rattle.exact_fraction.specs.NumberLaws.{≤ℚ_trans, ≤ℚ_same, *ℚ_comm, *ℚ_assoc, of_ℤ-*}
 use Rattle.exact_fraction.proofs.OrderLaws.{≤ℚ_left, ≤ℚ_right, ≤ℚ_cancel}
 use Rattle.exact_fraction.proofs.Ring.{Whole, ◌:*◌, x0, ring}
-use Rattle.exact_law.specs.Sums.{◌<ℚ◌}
 use Rattle.exact_law.specs.Rounding.{least_root, scaled_square, ten_to, IsTwoDigits, IsNearest}
-use Rattle.exact_law.proofs.Order.{whole-not_negative, below_not, below_by, below_or_not, ≤ℚ-<ℚ, <ℚ-≤ℚ, times-≤ℚ}
+use Rattle.exact_fraction.proofs.Strict.{below_not, below_by, below_or_not, ≤ℚ-<ℚ, <ℚ-≤ℚ}
+use Rattle.exact_fraction.proofs.Signs.{whole-not_negative, times-≤ℚ}
 use Rattle.exact_law.proofs.RoundingLaws.{next_square, scaled_square-rises}
 
 -- ---- whole factors

@@ -3,11 +3,11 @@ use Rattle.std.specs.Prelude.{◌≡◌, ℕ, zero, suc, Bool, true, false, cond
 use Rattle.std.proofs.Common.{◌∙◌, ap, ap₂}
 use Rattle.std.proofs.Math.Path.{fun_ext}
 use Rattle.exact_fraction.specs.Number.{ℚ, of_ℤ, ◌+ℚ◌, ◌*ℚ◌}
-use Rattle.exact_law.specs.Sums.{total}
+use Rattle.exact_fraction.specs.Sums.{total}
 use Rattle.exact_law.specs.Model.{Expression, Num, Key, Neg, Add, Sub, Mul, Div, Pow, value, slope, is_defined, replaced, Body, Input, Formula, Row, body_of, estimate_in, estimate, replaced_body, expansion, expanded, unit, exact_value, exact_slope, has_value}
 use Rattle.exact_law.specs.Law.{Column, Group, Own, Correlated, Joint, joint, cell, covariance_in, covariance, law_of, inputs_with, inputs_of, law}
 use Rattle.exact_law.specs.Renaming.{KeepsApart, renamed, renamed_body, renamed_rows, renamed_columns, renamed_group, renamed_groups}
-use Rattle.exact_law.proofs.SumLaws.{total-same}
+use Rattle.exact_fraction.proofs.SumLaws.{total-same}
 use Rattle.exact_law.proofs.Chain.{value-replaced, slope-replaced, is_defined-replaced}
 
 -- ---- covariances

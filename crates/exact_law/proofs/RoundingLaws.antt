@@ -11,9 +11,10 @@ use Rattle.exact_fraction.specs.NumberLaws.{≤ℚ_same, ≤ℚ_trans, *ℚ-≤�
 use Rattle.exact_fraction.specs.Whole.{le_both}
 use Rattle.exact_fraction.proofs.OrderLaws.{≤ℚ_left, ≤ℚ_right, ≤ℚ_by, *ℚ-not_negative, square-not_negative, floor_ℚ-not_above}
 use Rattle.exact_fraction.proofs.Ring.{Whole, ◌:+◌, ◌:*◌, x0, x1, x2, ring}
-use Rattle.exact_law.specs.Sums.{power}
+use Rattle.exact_fraction.specs.Powers.{power}
 use Rattle.exact_law.specs.Rounding.{ten_to, at_place, least_root, scaled_square, IsTwoDigits, IsHundredths}
-use Rattle.exact_law.proofs.Order.{whole-not_negative, inv-not_negative, below_not, ≤ℚ-<ℚ, times-≤ℚ}
+use Rattle.exact_fraction.proofs.Strict.{below_not, ≤ℚ-<ℚ}
+use Rattle.exact_fraction.proofs.Signs.{whole-not_negative, inv-not_negative, times-≤ℚ}
 
 -- ---- powers of ten
 power-not_negative : (x : ℚ) (n : ℕ) → of_ℤ (pos 0) ≤ℚ x → of_ℤ (pos 0) ≤ℚ power x n

@@ -2,16 +2,16 @@
 -- at most the product of the variances.
 use Rattle.std.specs.Prelude.{◌≡◌, ℕ, ◌-◌, Bool, true, false, List, [], ◌∷◌, pos, refl}
 use Rattle.std.proofs.Common.{sym, ◌∙◌, ap, ap₂}
-use Rattle.exact_fraction.specs.Number.{ℚ, of_ℤ, ◌+ℚ◌, ◌*ℚ◌, ◌/ℚ◌, neg_ℚ, is_zero_ℚ, ◌≤ℚ◌}
+use Rattle.exact_fraction.specs.Number.{ℚ, of_ℤ, ◌+ℚ◌, ◌*ℚ◌, ◌/ℚ◌, neg_ℚ, is_zero_ℚ, ◌≤ℚ◌, ◌-ℚ◌}
 use Rattle.exact_fraction.specs.NumberLaws.{≤ℚ_refl}
 use Rattle.exact_fraction.proofs.Quotients.{is_zero_ℚ-≡}
 use Rattle.exact_fraction.proofs.OrderLaws.{≤ℚ_right, ≤ℚ_by, ≤ℚ_cancel, +ℚ-not_negative, *ℚ-not_negative, square-not_negative}
 use Rattle.exact_fraction.proofs.Ring.{Var, Whole, ◌:+◌, ◌:*◌, Minus, x0, x1, x2, x3, x4, x5, ring}
-use Rattle.exact_law.specs.Sums.{total, below, ◌-ℚ◌}
+use Rattle.exact_fraction.specs.Sums.{total, below}
 use Rattle.exact_law.specs.Model.{IsSameTest}
 use Rattle.exact_law.specs.Law.{Group, Own, Correlated, Joint, joint, covariance, law_of, part, AllGroups, IsSoundFor}
-use Rattle.exact_law.proofs.SumLaws.{total-same, total-swap}
-use Rattle.exact_law.proofs.Order.{not_negative-same, whole-not_negative}
+use Rattle.exact_fraction.proofs.SumLaws.{total-same, total-swap}
+use Rattle.exact_fraction.proofs.Signs.{not_negative-same, whole-not_negative}
 use Rattle.exact_law.proofs.Split.{total-linear, law_split, part-not_negative}
 
 -- ---- symmetric

@@ -2,16 +2,17 @@
 use Rattle.std.specs.Prelude.{◌≡◌, ℕ, zero, suc, ◌-◌, Bool, true, ◌&&◌, List, [], ◌∷◌, pos, ◌+ℤ◌, refl}
 use Rattle.std.proofs.Common.{sym, ◌∙◌, ap, ap₂, arith}
 use Rattle.std.proofs.lemmas.Int.{ints}
-use Rattle.exact_fraction.specs.Number.{ℚ, of_ℤ, ◌+ℚ◌, ◌*ℚ◌, neg_ℚ, inv_ℚ, ◌≤ℚ◌}
+use Rattle.exact_fraction.specs.Number.{ℚ, of_ℤ, ◌+ℚ◌, ◌*ℚ◌, neg_ℚ, inv_ℚ, ◌≤ℚ◌, ◌-ℚ◌}
 use Rattle.exact_fraction.specs.NumberLaws.{≤ℚ_refl, of_ℤ-+}
 use Rattle.exact_fraction.proofs.OrderLaws.{≤ℚ-difference, +ℚ-not_negative, *ℚ-not_negative, square-not_negative}
 use Rattle.exact_fraction.proofs.Ring.{Whole, ◌:+◌, ◌:-◌, ◌:*◌, Minus, x0, x1, x2, x3, x4, x5, ring}
-use Rattle.exact_law.specs.Sums.{total, below, ◌-ℚ◌}
+use Rattle.exact_fraction.specs.Sums.{total, below}
 use Rattle.exact_law.specs.Model.{IsSameTest, unit, once}
 use Rattle.exact_law.specs.Law.{Column, Group, Own, Correlated, Joint, joint, cell, covariance_in, covariance, law_of, part, IsSound, members, stand_in, AllGroups, IsSoundFor}
-use Rattle.exact_law.proofs.SumLaws.{and_left, and_right, total-same, total-zero, total-plus, total-times, total-times_right, total-swap}
+use Rattle.exact_fraction.proofs.SumLaws.{total-same, total-zero, total-plus, total-times, total-times_right, total-swap}
+use Rattle.exact_law.proofs.Tests.{and_left, and_right}
 use Rattle.exact_law.proofs.Chain.{along-once}
-use Rattle.exact_law.proofs.Order.{not_negative-same, whole-not_negative, inv-not_negative, total-not_negative}
+use Rattle.exact_fraction.proofs.Signs.{not_negative-same, whole-not_negative, inv-not_negative, total-not_negative}
 
 -- ---- the double sum, linear in the covariances
 law_of-zero : {K : Type 0} (inputs : List K) (u w : K → ℚ) → law_of (λ i j. of_ℤ (pos 0)) inputs u w ≡ of_ℤ (pos 0)

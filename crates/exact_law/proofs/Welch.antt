@@ -7,11 +7,11 @@ use Rattle.exact_fraction.specs.NumberLaws.{≤ℚ_refl, ≤ℚ_trans, ≤ℚ_an
 use Rattle.exact_fraction.proofs.Quotients.{is_zero_ℚ-≡, ≡-is_zero_ℚ, ≢-is_zero_ℚ}
 use Rattle.exact_fraction.proofs.OrderLaws.{≤ℚ_left, ≤ℚ_right, ≤ℚ_by, ≤ℚ-/ℚ, *ℚ-≤ℚ_left, +ℚ-not_negative, *ℚ-not_negative, square-not_negative}
 use Rattle.exact_fraction.proofs.Ring.{Whole, ◌:+◌, ◌:*◌, x0, x1, x2, ring}
-use Rattle.exact_law.specs.Sums.{total}
+use Rattle.exact_fraction.specs.Sums.{total}
 use Rattle.exact_law.specs.Model.{Row, IsSameTest, exact_slope}
 use Rattle.exact_law.specs.Law.{Group, Own, Correlated, Joint, law, part, part_of, inputs_of, IsSound, AllGroups, IsSoundFor}
 use Rattle.exact_law.specs.Degrees.{Share, counts, any_counts, weight, NoDegrees, InfiniteDegrees, FiniteDegrees, effective, inverse_degrees, share_of, shares_of, degrees_of}
-use Rattle.exact_law.proofs.Order.{product_zero, whole-not_negative, inv-not_negative}
+use Rattle.exact_fraction.proofs.Signs.{product_zero, whole-not_negative, inv-not_negative}
 use Rattle.exact_law.proofs.Split.{law_split, part-not_negative}
 
 -- a share that is sound, and whose degrees are at least m where it counts

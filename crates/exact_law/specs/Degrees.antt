@@ -2,7 +2,7 @@
 -- coverage factor of Table G.2 for them.
 use Rattle.std.specs.Prelude.{ℕ, ◌-◌, Bool, false, cond, not, ◌&&◌, ◌||◌, List, [], ◌∷◌, pos}
 use Rattle.exact_fraction.specs.Number.{ℚ, of_ℤ, ◌*ℚ◌, ◌/ℚ◌, inv_ℚ, is_zero_ℚ, is_at_most_ℚ}
-use Rattle.exact_law.specs.Sums.{total}
+use Rattle.exact_fraction.specs.Sums.{total}
 use Rattle.exact_law.specs.Model.{Row}
 use Rattle.exact_law.specs.Law.{Group, Own, Correlated, Joint, law, part_of}
 

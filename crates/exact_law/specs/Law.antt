@@ -2,8 +2,8 @@
 -- inputs, of two sensitivities and the covariance of the two inputs. Covariances come from groups of
 -- inputs, and the law is the sum of the groups' parts.
 use Rattle.std.specs.Prelude.{◌≡◌, ℕ, ◌-◌, Bool, true, ◌&&◌, List, [], ◌∷◌, map, pos}
-use Rattle.exact_fraction.specs.Number.{ℚ, of_ℤ, ◌+ℚ◌, ◌*ℚ◌, ◌/ℚ◌, neg_ℚ, ◌≤ℚ◌}
-use Rattle.exact_law.specs.Sums.{total, below, ◌-ℚ◌}
+use Rattle.exact_fraction.specs.Number.{ℚ, of_ℤ, ◌+ℚ◌, ◌*ℚ◌, ◌/ℚ◌, neg_ℚ, ◌≤ℚ◌, ◌-ℚ◌}
+use Rattle.exact_fraction.specs.Sums.{total, below}
 use Rattle.exact_law.specs.Model.{Row, Body, Input, Formula, once, unit, exact_slope}
 
 -- a column of a table of joint readings: its quantity, and what its record t reads

@@ -1,5 +1,4 @@
 -- The definitions, in the order in which to read them.
-pub mod Sums
 pub mod Model
 pub mod Law
 pub mod Degrees

@@ -2,8 +2,9 @@
 -- estimate or a formula over other quantities. The value and the derivatives of a quantity are those
 -- of its expansion, the formula over inputs alone that is had by putting in formula for formula.
 use Rattle.std.specs.Prelude.{◌≡◌, ℕ, zero, suc, Bool, true, false, cond, not, ◌&&◌, Option, Some, None, List, [], ◌∷◌, length, ℤ, pos, negsuc}
-use Rattle.exact_fraction.specs.Number.{ℚ, of_ℤ, ◌+ℚ◌, ◌*ℚ◌, ◌/ℚ◌, neg_ℚ, is_zero_ℚ}
-use Rattle.exact_law.specs.Sums.{total, power, whole_power, ◌-ℚ◌}
+use Rattle.exact_fraction.specs.Number.{ℚ, of_ℤ, ◌+ℚ◌, ◌*ℚ◌, ◌/ℚ◌, neg_ℚ, is_zero_ℚ, ◌-ℚ◌}
+use Rattle.exact_fraction.specs.Powers.{power, whole_power}
+use Rattle.exact_fraction.specs.Sums.{total}
 
 -- ---- expressions
 pub data Expression (K : Type 0) : Type 0 where

@@ -2,8 +2,8 @@
 -- significant digits of the square root of a variance, and the hundredths of a correlation
 -- coefficient. Ties go upward.
 use Rattle.std.specs.Prelude.{ℕ, suc, ◌+◌, ◌-◌, ◌*◌, ◌≤◌, ◌==◌, cond, ℤ, pos, negsuc, ◌<ℤ◌, unsigned_abs}
-use Rattle.exact_fraction.specs.Number.{ℚ, of_ℤ, ◌+ℚ◌, ◌*ℚ◌, ◌/ℚ◌, inv_ℚ, ◌≤ℚ◌, floor_ℚ}
-use Rattle.exact_law.specs.Sums.{power, ◌<ℚ◌}
+use Rattle.exact_fraction.specs.Number.{ℚ, of_ℤ, ◌+ℚ◌, ◌*ℚ◌, ◌/ℚ◌, inv_ℚ, ◌≤ℚ◌, floor_ℚ, ◌<ℚ◌}
+use Rattle.exact_fraction.specs.Powers.{power}
 
 -- 10 to the power e
 unfoldable pub ten_to : ℤ → ℚ

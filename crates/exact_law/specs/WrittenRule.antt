@@ -2,8 +2,7 @@
 -- the form with two outcomes, 4.2.3 for the form with four): over exact values, and over intervals
 -- that hold them.
 use Rattle.std.specs.Prelude.{◌≡◌, ℕ, Bool, true, false, cond, ◌&&◌, ◌||◌, Option, Some, None, List, [], ◌∷◌, ◌++◌, pos}
-use Rattle.exact_fraction.specs.Number.{ℚ, of_ℤ, ◌*ℚ◌, is_at_most_ℚ, ◌≤ℚ◌}
-use Rattle.exact_law.specs.Sums.{◌-ℚ◌}
+use Rattle.exact_fraction.specs.Number.{ℚ, of_ℤ, ◌*ℚ◌, is_at_most_ℚ, ◌≤ℚ◌, ◌-ℚ◌}
 
 pub data Form : Type 0 where
   Binary : Form

@@ -7,7 +7,9 @@ use native.Mathlib.Nat.{suc-add}
 use Rattle.std.proofs.lemmas.Bool.{cond-true, cond-false, le-leb, lt-leb, ne_eqb, cases_lt}
 use Rattle.std.proofs.lemmas.Option.{none-some, same_Some}
 use Rattle.exact_fraction.specs.Number.{ℚ, of_ℤ, ◌*ℚ◌, ◌/ℚ◌, inv_ℚ}
+use Rattle.exact_fraction.specs.Powers.{power, whole_power}
 use Rattle.exact_fraction.specs.NumberLaws.{≤ℚ_refl}
+use Rattle.exact_fraction.proofs.PowerLaws.{power-suc, power-one, power-+, whole_power-pos, whole_power-negsuc}
 use Rattle.std.proofs.lemmas.Int.{ints}
 use Rattle.decimal18.specs.Bound.{Bound}
 use Rattle.decimal18.proofs.Values.{value-whole}
@@ -15,7 +17,7 @@ use Rattle.exact_fraction.proofs.Ring.{◌:*◌, Whole, x0, x1, x2, ring}
 use Rattle.fixed_interval.specs.Interval.{Interval, Encloses, point_span}
 use Rattle.fixed_interval.specs.declared.faults.ArithFault.{ArithFault}
 use Rattle.fixed_interval.specs.Rules.{one_bound, product_span, square_span}
-use Rattle.fixed_interval.specs.Powers.{power_ℚ, power_ℤ, then_span, power_by, power_span, steps_by, power_steps}
+use Rattle.fixed_interval.specs.Powers.{then_span, power_by, power_span, steps_by, power_steps}
 use Rattle.fixed_interval.proofs.Inclusions.{product_span_encloses, square_span_encloses}
 
 -- one halving, with the power by the half
@@ -130,23 +132,15 @@ anyway (Ok x) P h = h x
 anyway (Err e) P h = tt
 
 -- ---- exact powers
-power_ℚ-+ : (x : ℚ) (j k : ℕ) → power_ℚ x (j + k) ≡ power_ℚ x j *ℚ power_ℚ x k
-power_ℚ-+ x zero k = rw (zero-add k) (ring (power_ℚ x k ∷ []) x0 (Whole (pos 1) :* x0) refl)
-power_ℚ-+ x (suc j) k =
-    rw (suc-add j k)
-    (ap (λ t. x *ℚ t) (power_ℚ-+ x j k)
-    ∙ ring (x ∷ power_ℚ x j ∷ power_ℚ x k ∷ []) (x0 :* (x1 :* x2)) (x0 :* x1 :* x2) refl)
-
-exact_even : (x : ℚ) (k : ℕ) → k % 2 ≡ 0 → power_ℚ x k ≡ power_ℚ x (k / 2) *ℚ power_ℚ x (k / 2)
+exact_even : (x : ℚ) (k : ℕ) → k % 2 ≡ 0 → power x k ≡ power x (k / 2) *ℚ power x (k / 2)
 exact_even x k h =
     let e : k ≡ k / 2 + k / 2 = omega arith in
-    ap (power_ℚ x) e ∙ power_ℚ-+ x (k / 2) (k / 2)
+    ap (power x) e ∙ power-+ x (k / 2) (k / 2)
 
-exact_odd : (x : ℚ) (k : ℕ) → (k % 2 ≡ 0 → ⊥) → power_ℚ x k ≡ (power_ℚ x (k / 2) *ℚ power_ℚ x (k / 2)) *ℚ x
+exact_odd : (x : ℚ) (k : ℕ) → (k % 2 ≡ 0 → ⊥) → power x k ≡ (power x (k / 2) *ℚ power x (k / 2)) *ℚ x
 exact_odd x k h =
     let e : k ≡ suc (k / 2 + k / 2) = omega arith in
-    ap (power_ℚ x) e ∙ ap (λ t. x *ℚ t) (power_ℚ-+ x (k / 2) (k / 2))
-    ∙ ring (x ∷ power_ℚ x (k / 2) ∷ []) (x0 :* (x1 :* x1)) ((x1 :* x1) :* x0) refl
+    ap (power x) e ∙ power-suc x (k / 2 + k / 2) ∙ ap (λ t. t *ℚ x) (power-+ x (k / 2) (k / 2))
 
 -- ---- the span of a power encloses the power
 abbrev EnclosesPower : Option Interval → ℚ → Type 0
@@ -161,27 +155,28 @@ multiplied : (o : Option Interval) (a : Interval) (x q : ℚ) → EnclosesPower 
 multiplied None a x q h k s e = absurd (none-some s e)
 multiplied (Some t) a x q h k s e = product_span_encloses t a s e x q (h t refl) k
 
-enclosed_by : (n : ℕ) (a : Interval) (q : ℚ) → Encloses a q → (k : ℕ) → 0 < k → k ≤ n → EnclosesPower (power_span a k) (power_ℚ q k)
+enclosed_by : (n : ℕ) (a : Interval) (q : ℚ) → Encloses a q → (k : ℕ) → 0 < k → k ≤ n → EnclosesPower (power_span a k) (power q k)
 enclosed_by zero a q h k k0 most = absurd (omega arith)
 enclosed_by (suc n) a q h k k0 most =
     by (λ j. enclosed_by n a q h (k / 2) (omega arith) (omega arith)) (cases_lt 1 k) (even_or_odd k) where
-      by : (1 < k → EnclosesPower (power_span a (k / 2)) (power_ℚ q (k / 2))) → (1 < k) ⊎ (k ≤ 1) → (k % 2 ≡ 0) ⊎ (k % 2 ≡ 0 → ⊥) → EnclosesPower (power_span a k) (power_ℚ q k)
-      by half (inl j) (inl e) = rw (power_even a k j e, exact_even q k e) (squared (power_span a (k / 2)) (power_ℚ q (k / 2)) (half j))
+      by : (1 < k → EnclosesPower (power_span a (k / 2)) (power q (k / 2))) → (1 < k) ⊎ (k ≤ 1) → (k % 2 ≡ 0) ⊎ (k % 2 ≡ 0 → ⊥) → EnclosesPower (power_span a k) (power q k)
+      by half (inl j) (inl e) = rw (power_even a k j e, exact_even q k e) (squared (power_span a (k / 2)) (power q (k / 2)) (half j))
       by half (inl j) (inr e) =
           rw (power_odd a k j e, exact_odd q k e)
-          (multiplied (then_span (power_span a (k / 2)) square_span) a _ q (squared (power_span a (k / 2)) (power_ℚ q (k / 2)) (half j)) h)
+          (multiplied (then_span (power_span a (k / 2)) square_span) a _ q (squared (power_span a (k / 2)) (power q (k / 2)) (half j)) h)
       by half (inr j) u =
           let e : k ≡ 1 = omega arith in
-          rw (e, power_one a) (λ s f. rw (← same_Some a s f, ring (q ∷ []) (x0 :* Whole (pos 1)) x0 refl) h)
+          rw (e, power_one a) (λ s f. rw (← same_Some a s f, power-one q) h)
 
 pub power_span_encloses : (a : Interval) (q : ℚ) → Encloses a q → (k : ℕ) → 0 < k → (s : Interval) → power_span a k ≡ Some s
-    → Encloses s (power_ℚ q k)
+    → Encloses s (power q k)
 power_span_encloses a q h k k0 = enclosed_by k a q h k k0 (omega arith)
 
 -- ---- whole powers
 pub positive_encloses : (a s : Interval) (k : ℤ) (n : ℕ) → n ≡ unsigned_abs k → pos 0 <ℤ k → power_span a n ≡ Some s
-    → (q : ℚ) → Encloses a q → Encloses s (power_ℤ q k)
-positive_encloses a s (pos k) n e h f q j = power_span_encloses a q j k (omega (arith, ints)) s (rw e at f)
+    → (q : ℚ) → Encloses a q → Encloses s (whole_power q k)
+positive_encloses a s (pos k) n e h f q j =
+    rw (whole_power-pos q k) (power_span_encloses a q j k (omega (arith, ints)) s (rw e at f))
 positive_encloses a s (negsuc k) n e h f q j = absurd (omega (arith, ints))
 
 one_encloses : (one : Bound) → one ≡ one_bound → Encloses (point_span one) (of_ℤ (pos 1))
@@ -190,9 +185,9 @@ one_encloses one e = rw (e, ← value-whole (pos 1)) (record { low = ≤ℚ_refl
 pub negative_encloses : (a s : Interval) (one : Bound) (k : ℤ) (n : ℕ) (r : Result Interval ArithFault) → n ≡ unsigned_abs k → k ≤ℤ pos 0
     → k ≢ pos 0 → power_span a n ≡ Some s → one ≡ one_bound
     → ((x y : ℚ) → Encloses (point_span one) x → Encloses s y → IfOk r (λ t. Encloses t (x /ℚ y)))
-    → (q : ℚ) → Encloses a q → IfOk r (λ t. Encloses t (power_ℤ q k))
+    → (q : ℚ) → Encloses a q → IfOk r (λ t. Encloses t (whole_power q k))
 negative_encloses a s one (pos k) n r e h m f o g q j = absurd (m (omega (arith, ints)))
 negative_encloses a s one (negsuc k) n r e h m f o g q j =
-    let y : ℚ = power_ℚ q (suc k) in
+    let y : ℚ = power q (suc k) in
     let inner : Encloses s y = power_span_encloses a q j (suc k) (omega arith) s (rw e at f) in
-    subst (λ z. IfOk r (λ t. Encloses t z)) (ring (inv_ℚ y ∷ []) (Whole (pos 1) :* x0) x0 refl) (g (of_ℤ (pos 1)) y (one_encloses one o) inner)
+    subst (λ z. IfOk r (λ t. Encloses t z)) (ring (inv_ℚ y ∷ []) (Whole (pos 1) :* x0) x0 refl ∙ sym (whole_power-negsuc q k)) (g (of_ℤ (pos 1)) y (one_encloses one o) inner)

@@ -3,17 +3,18 @@
 use Rattle.std.specs.Prelude.{◌≡◌, Option, None, Some, refl}
 use Rattle.std.proofs.Common.{sym, ap, ap₂, ◌∙◌}
 use Rattle.std.proofs.lemmas.Option.{none-some}
-use Rattle.exact_fraction.specs.Number.{ℚ, of_ℤ, ◌≤ℚ◌}
+use Rattle.exact_fraction.specs.Number.{ℚ, of_ℤ, ◌≤ℚ◌, min_ℚ, max_ℚ}
 use Rattle.exact_fraction.specs.NumberLaws.{≤ℚ_refl, ≤ℚ_trans}
 use Rattle.decimal18.specs.Bound.{Bound, value_of}
 use Rattle.decimal18.specs.Down.{down, up, IsInRange}
 use Rattle.decimal18.proofs.Rounding.{down_some, down_none}
 use Rattle.decimal18.proofs.Upward.{up_some, up_none}
 use Rattle.fixed_interval.specs.Interval.{Interval, IsOrdered, from_ends, outward}
-use Rattle.fixed_interval.specs.Extremes.{min_ℚ, max_ℚ, lesser, greater, hull}
+use Rattle.fixed_interval.specs.Extremes.{lesser, greater, hull}
 use Rattle.fixed_interval.specs.Rules.{corners_span}
 use Rattle.fixed_interval.proofs.Enclosures.{outward_ends}
-use Rattle.fixed_interval.proofs.Least.{min-≤_left, min-≤_right, ≤-min, max-≥_left, max-≥_right, max-≤, down-min, up-max, lesser-≤_left, greater-≥_left}
+use Rattle.exact_fraction.proofs.Extremes.{min-≤_left, min-≤_right, ≤-min, max-≥_left, max-≥_right, max-≤}
+use Rattle.fixed_interval.proofs.Least.{down-min, up-max, lesser-≤_left, greater-≥_left}
 
 no_ends : (l h : Option Bound) → from_ends l h ≡ None → (P : Type 0) → (l ≡ None → P) → (h ≡ None → P) → P
 no_ends None h e P f g = f refl

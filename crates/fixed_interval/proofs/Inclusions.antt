@@ -5,7 +5,7 @@ use Rattle.std.proofs.Common.{sym, ap, subst, ◌∙◌, inl, inr}
 use Rattle.std.proofs.lemmas.Bool.{and_from, true≢false, cond-true, cond-false}
 use std.Quotient.{/_rec}
 use Rattle.exact_fraction.specs.Fraction.{is_zero_ℤ}
-use Rattle.exact_fraction.specs.Number.{ℚ, of_ℤ, ◌+ℚ◌, ◌*ℚ◌, ◌/ℚ◌, neg_ℚ, inv_ℚ, is_zero_ℚ, is_at_most_ℚ, ◌≤ℚ◌}
+use Rattle.exact_fraction.specs.Number.{ℚ, of_ℤ, ◌+ℚ◌, ◌*ℚ◌, ◌/ℚ◌, neg_ℚ, inv_ℚ, is_zero_ℚ, is_at_most_ℚ, ◌≤ℚ◌, min_ℚ, max_ℚ}
 use Rattle.exact_fraction.specs.NumberLaws.{≤ℚ_refl, ≤ℚ_trans, ≤ℚ_same, ≤ℚ_total, ≤ℚ-turned, +ℚ-≤ℚ_both, neg_ℚ-≤ℚ, *ℚ_comm, *ℚ-inv}
 use Rattle.exact_fraction.proofs.Quotients.{≢-is_zero_ℚ}
 use Rattle.exact_fraction.proofs.OrderLaws.{≤ℚ_left, ≤ℚ_right, ≤ℚ_by, ≤ℚ-difference, *ℚ-not_negative, square-not_negative, *ℚ-≤ℚ_both, *ℚ-≤ℚ_turned, *ℚ-between}
@@ -13,12 +13,11 @@ use Rattle.exact_fraction.proofs.Ring.{◌:+◌, ◌:*◌, ◌:-◌, Minus, Whol
 use Rattle.decimal18.specs.Bound.{Bound, value_of}
 use Rattle.decimal18.proofs.Values.{value-whole}
 use Rattle.fixed_interval.specs.Interval.{Interval, Encloses, IsOrdered, outward}
-use Rattle.fixed_interval.specs.Extremes.{min_ℚ, max_ℚ}
 use Rattle.fixed_interval.specs.Rules.{zero_bound, holds_zero, corners_span, difference_span, product_span, square_span, quotient_span, quotient}
 use Rattle.fixed_interval.specs.declared.faults.ArithFault.{ArithFault}
 use Rattle.fixed_interval.specs.declared.faults.ArithFault.TheVariants.{ZeroDivisor, Overflow}
 use Rattle.fixed_interval.proofs.Enclosures.{outward_encloses, answer_has}
-use Rattle.fixed_interval.proofs.Least.{min-≤_left, min-≤_right, ≤-min, max-≥_left, max-≥_right, max-≤}
+use Rattle.exact_fraction.proofs.Extremes.{min-≤_left, min-≤_right, ≤-min, max-≥_left, max-≥_right, max-≤}
 
 -- ---- between two numbers, in their order or in the other
 abbrev pub Lies : ℚ → ℚ → ℚ → Type 0

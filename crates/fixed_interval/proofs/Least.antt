@@ -1,9 +1,10 @@
--- The lesser and the greater of two: bounds of both, and one of the two.
+-- The lesser and the greater of two decimal numbers: their values, and what they are for rounded numbers.
 use Rattle.std.specs.Prelude.{◌≡◌, Bool, true, false, cond, Option, None, Some, refl}
 use Rattle.std.proofs.Common.{sym, ap, subst, ◌∙◌}
 use Rattle.std.proofs.lemmas.Bool.{cond-true, cond-false}
-use Rattle.exact_fraction.specs.Number.{ℚ, ◌≤ℚ◌, is_at_most_ℚ}
+use Rattle.exact_fraction.specs.Number.{ℚ, ◌≤ℚ◌, is_at_most_ℚ, min_ℚ, max_ℚ}
 use Rattle.exact_fraction.specs.NumberLaws.{≤ℚ_refl, ≤ℚ_trans, ≤ℚ_antisym, ≤ℚ-turned}
+use Rattle.exact_fraction.proofs.Extremes.{min_cases, max_cases}
 use Rattle.decimal18.specs.Bound.{Bound, value_of, IsCanonical}
 use Rattle.decimal18.specs.Down.{down, up}
 use Rattle.decimal18.proofs.Rounding.{down_some}
@@ -13,23 +14,9 @@ use Rattle.std.specs.Ordering.{is_le}
 use Rattle.std.specs.declared.cmp.Ordering.TheVariants.{Less, Equal, Greater}
 use Rattle.decimal18.specs.Order.{compare_ℚ, order}
 use Rattle.decimal18.specs.OrderLaws.{order-by_value}
-use Rattle.fixed_interval.specs.Extremes.{min_ℚ, max_ℚ, lesser, greater}
+use Rattle.fixed_interval.specs.Extremes.{lesser, greater}
 
 -- ---- one of the two
-pub min_cases : (x y : ℚ) (P : ℚ → Type 0) → (x ≤ℚ y → P x) → (y ≤ℚ x → P y) → P (min_ℚ x y)
-unfolding min_ℚ
-min_cases x y P f g = by (is_at_most_ℚ x y) refl where
-  by : (b : Bool) → is_at_most_ℚ x y ≡ b → P (cond b x y)
-  by true e = f (record { holds = e })
-  by false e = g (≤ℚ-turned x y e)
-
-pub max_cases : (x y : ℚ) (P : ℚ → Type 0) → (y ≤ℚ x → P x) → (x ≤ℚ y → P y) → P (max_ℚ x y)
-unfolding max_ℚ
-max_cases x y P f g = by (is_at_most_ℚ x y) refl where
-  by : (b : Bool) → is_at_most_ℚ x y ≡ b → P (cond b y x)
-  by true e = g (record { holds = e })
-  by false e = f (≤ℚ-turned x y e)
-
 pub lesser_cases : (b c : Bound) (P : Bound → Type 0) → (value_of b ≤ℚ value_of c → P b) → (value_of c ≤ℚ value_of b → P c) → P (lesser b c)
 unfolding lesser
 lesser_cases b c P f g = by (is_at_most_ℚ (value_of b) (value_of c)) refl where
@@ -43,25 +30,6 @@ greater_cases b c P f g = by (is_at_most_ℚ (value_of b) (value_of c)) refl whe
   by : (t : Bool) → is_at_most_ℚ (value_of b) (value_of c) ≡ t → P (cond t c b)
   by true e = g (record { holds = e })
   by false e = f (≤ℚ-turned _ _ e)
-
--- ---- bounds of both
-pub min-≤_left : (x y : ℚ) → min_ℚ x y ≤ℚ x
-min-≤_left x y = min_cases x y (λ m. m ≤ℚ x) (λ h. ≤ℚ_refl x) (λ h. h)
-
-pub min-≤_right : (x y : ℚ) → min_ℚ x y ≤ℚ y
-min-≤_right x y = min_cases x y (λ m. m ≤ℚ y) (λ h. h) (λ h. ≤ℚ_refl y)
-
-pub ≤-min : (z x y : ℚ) → z ≤ℚ x → z ≤ℚ y → z ≤ℚ min_ℚ x y
-≤-min z x y h k = min_cases x y (λ m. z ≤ℚ m) (λ _. h) (λ _. k)
-
-pub max-≥_left : (x y : ℚ) → x ≤ℚ max_ℚ x y
-max-≥_left x y = max_cases x y (λ m. x ≤ℚ m) (λ h. ≤ℚ_refl x) (λ h. h)
-
-pub max-≥_right : (x y : ℚ) → y ≤ℚ max_ℚ x y
-max-≥_right x y = max_cases x y (λ m. y ≤ℚ m) (λ h. h) (λ h. ≤ℚ_refl y)
-
-pub max-≤ : (z x y : ℚ) → x ≤ℚ z → y ≤ℚ z → max_ℚ x y ≤ℚ z
-max-≤ z x y h k = max_cases x y (λ m. m ≤ℚ z) (λ _. h) (λ _. k)
 
 -- ---- rounding does not fall: the lesser is rounded to the lesser answer
 down_rises : (x y : ℚ) (b c : Bound) → down x ≡ Some b → down y ≡ Some c → x ≤ℚ y → value_of b ≤ℚ value_of c
@@ -136,13 +104,6 @@ value-greater b c = by (is_at_most_ℚ (value_of b) (value_of c)) where
   by : (t : Bool) → value_of (cond t c b) ≡ cond t (value_of c) (value_of b)
   by true = refl
   by false = refl
-
--- ---- the order of the lesser, and of the greater
-pub min-≤-min : (x y z w : ℚ) → x ≤ℚ y → z ≤ℚ w → min_ℚ x z ≤ℚ min_ℚ y w
-min-≤-min x y z w h k = ≤-min _ y w (≤ℚ_trans _ _ _ (min-≤_left x z) h) (≤ℚ_trans _ _ _ (min-≤_right x z) k)
-
-pub max-≤-max : (x y z w : ℚ) → x ≤ℚ y → z ≤ℚ w → max_ℚ x z ≤ℚ max_ℚ y w
-max-≤-max x y z w h k = max-≤ _ x z (≤ℚ_trans _ _ _ h (max-≥_left y w)) (≤ℚ_trans _ _ _ k (max-≥_right y w))
 
 -- ---- the order of the code
 is_le_compared : (x y : ℚ) → is_le (compare_ℚ x y) ≡ is_at_most_ℚ x y

@@ -2,16 +2,17 @@
 use Rattle.std.specs.Prelude.{◌≡◌, Bool, true, false, cond, refl}
 use Rattle.std.proofs.Common.{sym, ◌∙◌}
 use Rattle.std.proofs.lemmas.Bool.{cond-true, cond-false, true≢false}
-use Rattle.exact_fraction.specs.Number.{ℚ, ◌≤ℚ◌, is_at_most_ℚ}
+use Rattle.exact_fraction.specs.Number.{ℚ, ◌≤ℚ◌, is_at_most_ℚ, min_ℚ, max_ℚ}
 use Rattle.exact_fraction.specs.NumberLaws.{≤ℚ_refl, ≤ℚ_trans, ≤ℚ-turned}
 use Rattle.exact_fraction.proofs.OrderLaws.{≤ℚ_left, ≤ℚ_right}
 use Rattle.decimal18.specs.Bound.{Bound, value_of}
 use Rattle.fixed_interval.specs.Interval.{Interval, Encloses, IsOrdered}
-use Rattle.fixed_interval.specs.Extremes.{min_ℚ, max_ℚ, lesser, greater}
+use Rattle.fixed_interval.specs.Extremes.{lesser, greater}
 use Rattle.fixed_interval.specs.Rules.{floored_span, cut_span, brought_into, comparison}
 use Rattle.fixed_interval.specs.declared.faults.Truth.{Truth}
 use Rattle.fixed_interval.specs.declared.faults.Truth.TheVariants.{Yes, No, Unsettled}
-use Rattle.fixed_interval.proofs.Least.{value-lesser, value-greater, min-≤-min, max-≤-max}
+use Rattle.exact_fraction.proofs.Extremes.{min-≤-min, max-≤-max}
+use Rattle.fixed_interval.proofs.Least.{value-lesser, value-greater}
 
 -- ---- floor_at
 pub greater_rises : (b c f : Bound) → value_of b ≤ℚ value_of c → value_of (greater b f) ≤ℚ value_of (greater c f)

@@ -1,16 +1,8 @@
--- The lesser and the greater of two numbers, of two decimal numbers, and the span that covers two.
+-- The lesser and the greater of two decimal numbers, and the span that covers two.
 use Rattle.std.specs.Prelude.{if◌then◌else◌, Option, None, Some}
-use Rattle.exact_fraction.specs.Number.{ℚ, is_at_most_ℚ}
+use Rattle.exact_fraction.specs.Number.{is_at_most_ℚ}
 use Rattle.decimal18.specs.Bound.{Bound, value_of}
 use Rattle.fixed_interval.specs.Interval.{Interval}
-
--- the lesser of two numbers
-unfoldable pub min_ℚ : ℚ → ℚ → ℚ
-min_ℚ x y = if is_at_most_ℚ x y then x else y
-
--- the greater of two numbers
-unfoldable pub max_ℚ : ℚ → ℚ → ℚ
-max_ℚ x y = if is_at_most_ℚ x y then y else x
 
 -- the lesser of two decimal numbers
 unfoldable pub lesser : Bound → Bound → Bound

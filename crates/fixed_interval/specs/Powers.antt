@@ -1,20 +1,9 @@
--- Whole powers: exact ones, their spans, and how many steps these take.
+-- Spans of whole powers, and how many steps these take.
 use Rattle.std.specs.Prelude.{ℕ, zero, suc, ◌+◌, ◌/◌, ◌%◌, ◌==◌, ◌||◌, if◌then◌else◌, nat_le, Option, None, Some, Result, Ok, Err, ℤ, pos, negsuc}
-use Rattle.exact_fraction.specs.Number.{ℚ, of_ℤ, ◌*ℚ◌, inv_ℚ}
 use Rattle.fixed_interval.specs.declared.faults.ArithFault.{ArithFault}
 use Rattle.fixed_interval.specs.declared.faults.ArithFault.TheVariants.{Overflow}
 use Rattle.fixed_interval.specs.Interval.{Interval, point_span}
 use Rattle.fixed_interval.specs.Rules.{one_bound, product_span, square_span, quotient}
-
--- the exact power
-abbrev pub power_ℚ : ℚ → ℕ → ℚ
-power_ℚ x zero = of_ℤ (pos 1)
-power_ℚ x (suc k) = x *ℚ power_ℚ x k
-
--- the same for a whole number k; for a negative one it is 1 divided by the power
-abbrev pub power_ℤ : ℚ → ℤ → ℚ
-power_ℤ x (pos k) = power_ℚ x k
-power_ℤ x (negsuc k) = inv_ℚ (power_ℚ x (suc k))
 
 -- an operation on a span that may be missing
 abbrev pub then_span : Option Interval → (Interval → Option Interval) → Option Interval

@@ -2,7 +2,7 @@
 -- `outward` rounds the least of them down and the greatest up.
 use Rattle.std.specs.Prelude.{◌^◌, ◌&&◌, Bool, if◌then◌else◌, Option, Result, Err, ℤ, pos, ℕ}
 use Rattle.std.specs.Option.{ok_or}
-use Rattle.exact_fraction.specs.Number.{ℚ, of_ℤ, ◌+ℚ◌, ◌*ℚ◌, ◌/ℚ◌, neg_ℚ, is_at_most_ℚ}
+use Rattle.exact_fraction.specs.Number.{ℚ, of_ℤ, ◌+ℚ◌, ◌*ℚ◌, ◌/ℚ◌, neg_ℚ, is_at_most_ℚ, min_ℚ, max_ℚ}
 use Rattle.exact_fraction.specs.Ratio.{value_of_ratio}
 use Rattle.exact_fraction.specs.declared.ratio.Ratio.{Ratio}
 use Rattle.decimal18.specs.Bound.{Bound, scaled, value_of}
@@ -12,7 +12,7 @@ use Rattle.fixed_interval.specs.declared.faults.ArithFault.TheVariants.{ZeroDivi
 use Rattle.fixed_interval.specs.declared.faults.Truth.{Truth}
 use Rattle.fixed_interval.specs.declared.faults.Truth.TheVariants.{Yes, No, Unsettled}
 use Rattle.fixed_interval.specs.Interval.{Interval, outward}
-use Rattle.fixed_interval.specs.Extremes.{min_ℚ, max_ℚ, lesser, greater}
+use Rattle.fixed_interval.specs.Extremes.{lesser, greater}
 
 -- the number 0, and the number 1
 abbrev pub zero_bound : Bound

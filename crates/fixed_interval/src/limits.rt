@@ -1,10 +1,9 @@
 ghost use Rattle.std.specs.Prelude.{◌≡◌, ◌+◌, ◌≤◌, Some, IfOk, pos};
 ghost use Rattle.std.specs.Option.{ok_or};
-ghost use Rattle.exact_fraction.specs.Number.{ℚ, of_ℤ, ◌/ℚ◌, ◌≤ℚ◌};
+ghost use Rattle.exact_fraction.specs.Number.{ℚ, of_ℤ, ◌/ℚ◌, ◌≤ℚ◌, min_ℚ, max_ℚ};
 ghost use Rattle.decimal18.specs.Bound.{value_of};
 ghost use Rattle.decimal18.specs.Down.{up};
 ghost use Rattle.fixed_interval.specs.Interval.{Encloses};
-ghost use Rattle.fixed_interval.specs.Extremes.{min_ℚ, max_ℚ};
 ghost use Rattle.fixed_interval.specs.Rules.{comparison, cut_span, floored_span, greatest_share, ratio_at, ratio_span, share_span};
 
 use crate::bounds::{greater, is_at_most, lesser, whole_number};

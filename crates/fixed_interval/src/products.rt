@@ -1,9 +1,10 @@
 ghost use Rattle.std.specs.Prelude.{◌≡◌, ◌≢◌, ◌+◌, ◌≤◌, IfOk, pos, negsuc, ◌≤ℤ◌};
 ghost use Rattle.std.specs.Option.{ok_or};
 ghost use Rattle.exact_fraction.specs.Number.{ℚ, ◌*ℚ◌, ◌/ℚ◌};
+ghost use Rattle.exact_fraction.specs.Powers.{whole_power as exact_power};
 ghost use Rattle.fixed_interval.specs.Interval.{Encloses};
 ghost use Rattle.fixed_interval.specs.Rules.{product_span, square_span, quotient};
-ghost use Rattle.fixed_interval.specs.Powers.{power, power_span, power_steps, power_ℤ, steps_of_power};
+ghost use Rattle.fixed_interval.specs.Powers.{power, power_span, power_steps, steps_of_power};
 
 use crate::bounds::whole_number;
 use crate::corners::{holds_zero, hull, products, quotients, squares};
@@ -99,7 +100,7 @@ pub fn pow<L: Ledger>(a: &Span, k: i8, steps: &mut Steps<L>) -> Result<Span, Ari
     requires most { k ≤ℤ pos 9 }
     requires nonzero { k ≢ pos 0 }
     ensures span { result ≡ power a.now k }
-    ensures encloses { (q : ℚ) → Encloses a.now q → IfOk result (λ s. Encloses s (power_ℤ q k)) }
+    ensures encloses { (q : ℚ) → Encloses a.now q → IfOk result (λ s. Encloses s (exact_power q k)) }
     ensures ticks { IfOk result (λ _. steps.new ≡ steps.old + steps_of_power k) }
     ensures most_ticks { steps.new ≤ steps.old + steps_of_power k }
 {

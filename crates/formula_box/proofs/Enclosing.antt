@@ -1,18 +1,17 @@
 -- The span of a formula encloses its value, which is defined.
 use Rattle.std.specs.Prelude.{◌≡◌, ℕ, zero, suc, ℤ, pos, negsuc, Bool, true, false, List, [], ◌∷◌, Option, None, Some, Result, Ok, Err, IfOk, refl}
-use Rattle.std.proofs.Common.{sym, ◌∙◌, ap, subst, arith}
-use Rattle.std.proofs.lemmas.Bool.{true≢false}
-use Rattle.exact_fraction.specs.Number.{ℚ, of_ℤ, ◌*ℚ◌, inv_ℚ, is_zero_ℚ}
-use Rattle.exact_fraction.specs.NumberLaws.{≤ℚ_refl, *ℚ_comm}
-use Rattle.exact_fraction.proofs.Quotients.{is_zero_ℚ-≡, ≡-is_zero_ℚ}
+use Rattle.std.proofs.Common.{sym, subst, arith}
+use Rattle.exact_fraction.specs.Number.{ℚ, of_ℤ, inv_ℚ}
+use Rattle.exact_fraction.specs.NumberLaws.{≤ℚ_refl}
+use Rattle.exact_fraction.proofs.PowerLaws.{base_not_zero}
 use Rattle.exact_fraction.proofs.Ring.{ring, Whole, ◌:*◌, x0}
-use Rattle.exact_law.specs.Sums.{power, whole_power}
+use Rattle.exact_fraction.specs.Powers.{power, whole_power}
 use Rattle.exact_law.specs.Model.{value, is_defined, has_power}
 use Rattle.decimal18.specs.Bound.{Bound, value_of}
 use Rattle.decimal18.proofs.Values.{value-whole}
 use Rattle.fixed_interval.specs.Interval.{Interval, Encloses, point_span, sum_span}
 use Rattle.fixed_interval.specs.Rules.{one_bound, difference_span, product_span, quotient, holds_zero}
-use Rattle.fixed_interval.specs.Powers.{power_ℚ, power_span, as_answer, inverted, power as span_power}
+use Rattle.fixed_interval.specs.Powers.{power_span, as_answer, inverted, power as span_power}
 use Rattle.fixed_interval.specs.declared.faults.ArithFault.{ArithFault}
 use Rattle.fixed_interval.proofs.Enclosures.{sum_span_encloses}
 use Rattle.fixed_interval.proofs.Inclusions.{difference_span_encloses, product_span_encloses, quotient_encloses, quotient_by_zero, not_zero}
@@ -38,17 +37,12 @@ pub then_holds : (r : Answer) (next : Interval → Answer) (P Q : Interval → T
 then_holds (Err fault) next P Q h k = tt
 then_holds (Ok s) next P Q h k = k s h
 
--- ---- points and powers
+-- ---- points
 pub point_encloses : (b : Bound) → Encloses (point_span b) (value_of b)
 point_encloses b = record { low = ≤ℚ_refl (value_of b); high = ≤ℚ_refl (value_of b) }
 
 pub one_encloses : Encloses (point_span one_bound) (of_ℤ (pos 1))
 one_encloses = subst (Encloses (point_span one_bound)) (value-whole (pos 1)) (point_encloses one_bound)
-
-pub power_same : (x : ℚ) (n : ℕ) → power_ℚ x n ≡ power x n
-unfolding power
-power_same x zero = refl
-power_same x (suc n) = *ℚ_comm x (power_ℚ x n) ∙ ap (λ t. t *ℚ x) (power_same x n)
 
 pub some_of_answer : (o : Option Interval) (s : Interval) → as_answer o ≡ Ok s → o ≡ Some s
 some_of_answer None s e = cc
@@ -59,16 +53,6 @@ divisor_not_zero a b s e = by (holds_zero b) refl where
   by : (t : Bool) → holds_zero b ≡ t → t ≡ false
   by true f = absurd (cc (quotient_by_zero a b f, e))
   by false f = refl
-
--- a power above 0 that is not 0 has a base that is not
-base_not_zero : (q : ℚ) (n : ℕ) → is_zero_ℚ (power_ℚ q (suc n)) ≡ false → is_zero_ℚ q ≡ false
-base_not_zero q n h = by (is_zero_ℚ q) refl where
-  by : (t : Bool) → is_zero_ℚ q ≡ t → t ≡ false
-  by true e =
-      let zero_power : power_ℚ q (suc n) ≡ of_ℤ (pos 0) =
-      ap (λ x. x *ℚ power_ℚ q n) (is_zero_ℚ-≡ q e) ∙ ring (power_ℚ q n ∷ []) (Whole (pos 0) :* x0) (Whole (pos 0)) refl in
-      absurd (true≢false (sym (≡-is_zero_ℚ _ zero_power) ∙ h))
-  by false e = refl
 
 inverse_encloses : (s t : Interval) (y : ℚ) → quotient (point_span one_bound) s ≡ Ok t → Encloses s y → Encloses t (inv_ℚ y)
 inverse_encloses s t y e h =
@@ -102,10 +86,10 @@ unfolding value is_defined has_power whole_power
 negative_power_holds v known n a x h None f t e = cc
 negative_power_holds v known n a x h (Some s) f t e =
     let q : ℚ = value v (expression_of a) in
-    let inner : Encloses s (power_ℚ q (suc n)) = power_span_encloses x q h.enclosed (suc n) (omega arith) s f in
+    let inner : Encloses s (power q (suc n)) = power_span_encloses x q h.enclosed (suc n) (omega arith) s f in
     record {
       defined = rw (h.defined, base_not_zero q n (not_zero s (divisor_not_zero _ s t e) _ inner)) refl;
-      enclosed = subst (λ y. Encloses t (inv_ℚ y)) (power_same q (suc n)) (inverse_encloses s t _ e inner);
+      enclosed = inverse_encloses s t _ e inner;
     }
 
 power_holds : (v : List ℕ → ℚ) (known : List ℕ → Bool) (k : ℤ) → IsExponent k → (a : Tree) (x : Interval)
@@ -116,7 +100,7 @@ power_holds v known (pos (suc n)) i a x h =
     arithmetic_holds (as_answer (power_span x (suc n))) _
     (λ t e. record {
       defined = rw h.defined refl;
-      enclosed = subst (Encloses t) (power_same _ (suc n)) (power_span_encloses x _ h.enclosed (suc n) (omega arith) t (some_of_answer _ t e));
+      enclosed = power_span_encloses x _ h.enclosed (suc n) (omega arith) t (some_of_answer _ t e);
     })
 power_holds v known (negsuc n) i a x h =
     arithmetic_holds (inverted (power_span x (suc n))) _ (λ t e. negative_power_holds v known n a x h (power_span x (suc n)) refl t e)

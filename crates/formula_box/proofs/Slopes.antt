@@ -3,7 +3,7 @@ use Rattle.std.specs.Prelude.{◌≡◌, ℕ, zero, suc, ◌-◌, ◌<◌, ℤ, 
 use Rattle.std.proofs.Common.{sym, ◌∙◌, subst, arith}
 use Rattle.exact_fraction.specs.Number.{ℚ, of_ℤ, ◌+ℚ◌, ◌*ℚ◌, ◌/ℚ◌, neg_ℚ, inv_ℚ}
 use Rattle.exact_fraction.proofs.Ring.{ring, Whole, Minus as Opposite_of, ◌:+◌, ◌:-◌, ◌:*◌, x0, x1}
-use Rattle.exact_law.specs.Sums.{power, whole_power}
+use Rattle.exact_fraction.specs.Powers.{power, whole_power}
 use Rattle.exact_law.specs.Model.{value, slope, unit, power_slope as exact_power_slope}
 use Rattle.decimal18.specs.Bound.{scaled}
 use Rattle.decimal18.proofs.Values.{value-whole}
@@ -21,7 +21,7 @@ use Rattle.formula_ast.specs.declared.token.Sign.TheVariants.{Plus, Minus, Times
 use Rattle.formula_box.specs.Values.{Answer, span_of, then_with, in_range}
 use Rattle.formula_box.specs.Slopes.{zero_span, occurs, both, divided, quotient_there, joined_slope, rising_factor, falling_factor, power_slope, there, where_used, slope_of, partial_of}
 use Rattle.formula_box.specs.Exact.{expression_of, AreEnclosed, HasValueWithin, derivative}
-use Rattle.formula_box.proofs.Enclosing.{point_encloses, one_encloses, power_same, from_holds}
+use Rattle.formula_box.proofs.Enclosing.{point_encloses, one_encloses, from_holds}
 
 -- a span that is there encloses q
 abbrev pub Holds : Option Interval → ℚ → Type 0
@@ -58,7 +58,7 @@ quotient_holds o p x y h k =
 power_holds : (o : Option Interval) (x : ℚ) (k : ℕ) → 0 < k → Holds o x → Holds (then_span o (λ s. power_span s k)) (power x k)
 power_holds None x k k0 h = tt
 power_holds (Some a) x k k0 h =
-    some_holds (power_span a k) _ (λ s e. subst (Encloses s) (power_same x k) (power_span_encloses a x h k k0 s e))
+    some_holds (power_span a k) _ (λ s e. power_span_encloses a x h k k0 s e)
 
 whole_holds : (z : ℤ) → Encloses (point_span (scaled z 0)) (of_ℤ z)
 whole_holds z = subst (Encloses (point_span (scaled z 0))) (value-whole z) (point_encloses (scaled z 0))

@@ -4,7 +4,7 @@ use Rattle.std.proofs.Common.{sym, ◌∙◌, ap, get_or}
 use Rattle.std.proofs.lemmas.List.{drop_more, drop_all}
 use Rattle.exact_fraction.specs.Number.{ℚ, of_ℤ, ◌+ℚ◌}
 use Rattle.exact_fraction.specs.NumberLaws.{+ℚ_comm, +ℚ_assoc, +ℚ-zero}
-use Rattle.exact_law.specs.Sums.{total}
+use Rattle.exact_fraction.specs.Sums.{total}
 use Rattle.exact_law.specs.Degrees.{Share}
 use Rattle.plain_law.specs.declared.degrees.Share.{Share as HeldShare}
 use Rattle.plain_law.specs.DegreeViews.{share_of}

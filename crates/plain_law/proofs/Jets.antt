@@ -2,8 +2,8 @@
 use Rattle.std.specs.Prelude.{◌≡◌, ℕ, zero, suc, ◌-◌, Bool, true, false, not, cond, ◌&&◌, ℤ, pos, negsuc, ◌<ℤ◌, unsigned_abs, nat_eq, refl}
 use Rattle.std.proofs.Common.{sym, ◌∙◌, ap, ap₂, arith}
 use Rattle.std.proofs.lemmas.Int.{ints}
-use Rattle.exact_fraction.specs.Number.{ℚ, of_ℤ, ◌+ℚ◌, ◌*ℚ◌, ◌/ℚ◌, neg_ℚ, is_zero_ℚ}
-use Rattle.exact_law.specs.Sums.{◌-ℚ◌, power, whole_power}
+use Rattle.exact_fraction.specs.Number.{ℚ, of_ℤ, ◌+ℚ◌, ◌*ℚ◌, ◌/ℚ◌, neg_ℚ, is_zero_ℚ, ◌-ℚ◌}
+use Rattle.exact_fraction.specs.Powers.{power, whole_power}
 use Rattle.exact_law.specs.Model.{Expression, Neg, Add, Sub, Mul, Div, Pow, is_defined, has_power, value, slope, power_slope, unit}
 use Rattle.plain_law.specs.declared.fraction.Exact.{Exact}
 use Rattle.plain_law.specs.declared.jet.Jet.{Jet}

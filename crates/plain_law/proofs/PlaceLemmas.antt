@@ -2,10 +2,10 @@
 use Rattle.std.specs.Prelude.{◌≡◌, ℕ, ◌*◌, Bool, true, false, pos, ◌+ℤ◌, refl}
 use Rattle.std.proofs.Common.{sym, ◌∙◌, ap, subst}
 use std.Quotient.{/_rec}
-use Rattle.exact_fraction.specs.Number.{ℚ, of_ℤ, ◌*ℚ◌, ◌/ℚ◌, is_zero_ℚ, is_at_most_ℚ, ◌≤ℚ◌}
+use Rattle.exact_fraction.specs.Number.{ℚ, of_ℤ, ◌*ℚ◌, ◌/ℚ◌, is_zero_ℚ, is_at_most_ℚ, ◌≤ℚ◌, ◌<ℚ◌}
 use Rattle.exact_fraction.proofs.OrderLaws.{≤ℚ_left}
 use Rattle.exact_fraction.proofs.Quotients.{*ℚ-/ℚ}
-use Rattle.exact_law.specs.Sums.{power, ◌<ℚ◌}
+use Rattle.exact_fraction.specs.Powers.{power}
 use Rattle.exact_law.specs.Rounding.{ten_to, scaled_square}
 use Rattle.exact_law.proofs.RoundingLaws.{ten_to-next, ten_times}
 use Rattle.plain_law.specs.Numbers.{number}

@@ -9,12 +9,11 @@ use Prim.Native.Nat.{◌∣◌}
 use Rattle.std.proofs.Math.Dec.{eqb-suc-zero}
 use Rattle.exact_fraction.specs.Fraction.{Fraction, whole, is_zero_ℤ, inverse}
 use Rattle.exact_fraction.specs.Whole.{diff_same, push}
-use Rattle.exact_fraction.specs.Number.{ℚ, number_of, of_ℤ, ◌+ℚ◌, ◌*ℚ◌, ◌/ℚ◌, neg_ℚ, inv_ℚ, is_zero_ℚ, is_at_most_ℚ}
+use Rattle.exact_fraction.specs.Number.{ℚ, number_of, of_ℤ, ◌+ℚ◌, ◌*ℚ◌, ◌/ℚ◌, neg_ℚ, inv_ℚ, is_zero_ℚ, is_at_most_ℚ, ◌-ℚ◌}
 use Rattle.exact_fraction.specs.NumberLaws.{of_ℤ-+, of_ℤ-*, of_ℤ-neg, ≤ℚ-of_≼, ≼-of_≤ℚ}
 use Rattle.exact_fraction.proofs.OrderLaws.{≤ℚ-difference, ≤ℚ-of_difference}
 use Rattle.exact_fraction.proofs.Quotients.{/ℚ-*ℚ, ≡-/ℚ, number_of-parts}
 use Rattle.exact_fraction.proofs.Ring.{Whole, ◌:+◌, ◌:*◌, Minus, x0, x1, x2, x3, x4, ring}
-use Rattle.exact_law.specs.Sums.{◌-ℚ◌}
 use Rattle.plain_law.specs.Numbers.{signed, differ}
 
 -- ---- divisors

@@ -1,62 +1,18 @@
--- Sums over a list by one step after another.
-use Rattle.std.specs.Prelude.{◌≡◌, ℕ, suc, ◌+◌, ◌<◌, ◌≤◌, List, [], ◌∷◌, length, map, pos, refl}
+-- Sums over the inputs of a model, of which the last part is still to come.
+use Rattle.std.specs.Prelude.{◌≡◌, ℕ, suc, ◌+◌, ◌<◌, ◌≤◌, List, [], ◌∷◌, length, pos, refl}
 use Rattle.std.proofs.Common.{sym, ◌∙◌, ap, arith, drop}
 use Rattle.std.proofs.lemmas.List.{drop_more, drop_all}
 use Rattle.std.proofs.Math.ListN.{get_or}
 use Rattle.exact_fraction.specs.Number.{ℚ, of_ℤ, ◌+ℚ◌}
-use Rattle.exact_fraction.proofs.Ring.{Whole, ◌:+◌, x0, x1, x2, ring}
-use Rattle.exact_law.specs.Sums.{total, below}
+use Rattle.exact_fraction.specs.Sums.{total}
+use Rattle.exact_fraction.proofs.Ring.{◌:+◌, x0, x1, x2, ring}
+use Rattle.exact_fraction.proofs.SumLaws.{zero_plus, plus_zero}
 use Rattle.exact_law.specs.Law.{inputs_with, inputs_of}
 use Rattle.plain_law.specs.declared.model.Body.{Body}
 use Rattle.plain_law.specs.declared.model.Body.TheVariants.{Input, Formula}
 use Rattle.plain_law.specs.Models.{rows_from, rows}
 use Rattle.plain_law.specs.Groups.{if_input}
 
-zero_plus : (x : ℚ) → of_ℤ (pos 0) +ℚ x ≡ x
-zero_plus x = ring (x ∷ []) (Whole (pos 0) :+ x0) x0 refl
-
-plus_zero : (x : ℚ) → x +ℚ of_ℤ (pos 0) ≡ x
-plus_zero x = ring (x ∷ []) (x0 :+ Whole (pos 0)) x0 refl
-
--- ---- the numbers below n
-pub below_zero : (f : ℕ → ℚ) (s : ℚ) → s ≡ of_ℤ (pos 0) → s ≡ total f (below 0)
-unfolding total below
-below_zero f s e = e
-
-pub below_next : (f : ℕ → ℚ) (k : ℕ) (s t : ℚ) → s ≡ total f (below k) → t ≡ f k +ℚ s → t ≡ total f (below (k + 1))
-unfolding total below
-below_next f k s t e h =
-    let g : suc k ≡ k + 1 = omega arith in
-    h ∙ ap (λ x. f k +ℚ x) e ∙ ap (λ n. total f (below n)) g
-
--- ---- a list, of which the last part is still to come
-pub none_yet : {A B : Type 0} (f : B → ℚ) (v : A → B) (xs : List A) (s : ℚ) → s ≡ of_ℤ (pos 0)
-    → s +ℚ total f (map v (drop 0 xs)) ≡ total f (map v xs)
-none_yet f v xs s e = ap (λ t. t +ℚ total f (map v xs)) e ∙ zero_plus _
-
-after_first : {A B : Type 0} (f : B → ℚ) (v : A → B) (x : A) (xs : List A) → total f (map v (x ∷ xs)) ≡ f (v x) +ℚ total f (map v xs)
-unfolding total
-after_first f v x xs = refl
-
-pub one_more : {A B : Type 0} (f : B → ℚ) (v : A → B) (xs : List A) (k : ℕ) (x : A) (s s' t : ℚ) → k < length xs → get_or xs k x ≡ x
-    → s +ℚ total f (map v (drop k xs)) ≡ t → s' ≡ s +ℚ f (v x) → s' +ℚ total f (map v (drop (k + 1) xs)) ≡ t
-one_more f v xs k x s s' t l e h i =
-    ap (λ u. u +ℚ total f (map v (drop (k + 1) xs))) i
-    ∙ ring (s ∷ f (v x) ∷ total f (map v (drop (k + 1) xs)) ∷ []) ((x0 :+ x1) :+ x2) (x0 :+ (x1 :+ x2)) refl
-    ∙ ap (λ u. s +ℚ u) (sym (after_first f v x (drop (k + 1) xs)))
-    ∙ ap (λ y. s +ℚ total f (map v (y ∷ drop (k + 1) xs))) (sym e)
-    ∙ ap (λ ys. s +ℚ total f (map v ys)) (sym (drop_more xs k x l)) ∙ h
-
-at_end : {A B : Type 0} (f : B → ℚ) (v : A → B) → total f (map v []) ≡ of_ℤ (pos 0)
-unfolding total
-at_end f v = refl
-
-pub all_summed : {A B : Type 0} (f : B → ℚ) (v : A → B) (xs : List A) (k : ℕ) (s t : ℚ) → length xs ≤ k
-    → s +ℚ total f (map v (drop k xs)) ≡ t → s ≡ t
-all_summed f v xs k s t l h =
-    sym (plus_zero s) ∙ ap (λ u. s +ℚ u) (sym (at_end f v)) ∙ ap (λ ys. s +ℚ total f (map v ys)) (sym (drop_all k xs l)) ∙ h
-
--- ---- the inputs of a model, of which the last part is still to come
 pub no_input_yet : (f : ℕ → ℚ) (bs : List Body) (s : ℚ) → s ≡ of_ℤ (pos 0)
     → s +ℚ total f (inputs_of (rows_from 0 (drop 0 bs))) ≡ total f (inputs_of (rows bs))
 no_input_yet f bs s e = ap (λ t. t +ℚ total f (inputs_of (rows bs))) e ∙ zero_plus _

@@ -1,6 +1,6 @@
 ghost use Rattle.std.specs.Prelude.{◌≡◌, ℕ, IfSome, nat_eq};
 ghost use Rattle.exact_fraction.specs.Number.{◌*ℚ◌};
-ghost use Rattle.exact_law.specs.Sums.{total, below};
+ghost use Rattle.exact_fraction.specs.Sums.{total, below};
 ghost use Rattle.exact_law.specs.Law.{mean, joint, cell, covariance_in, covariance};
 ghost use Rattle.plain_law.specs.Numbers.{number};
 ghost use Rattle.plain_law.specs.Groups.{reading, column, columns, group_of, groups_of};

@@ -1,6 +1,6 @@
 ghost use Rattle.std.specs.Prelude.{◌≡◌, pos, true, false, map, IfSome, IsSome};
 ghost use Rattle.exact_fraction.specs.Number.{of_ℤ, floor_ℚ, is_zero_ℚ};
-ghost use Rattle.exact_law.specs.Sums.{total};
+ghost use Rattle.exact_fraction.specs.Sums.{total};
 ghost use Rattle.exact_law.specs.Degrees.{any_counts, counts, effective, factor, row_at, row_of, thousandths, weight};
 ghost use Rattle.plain_law.specs.Numbers.{number};
 ghost use Rattle.plain_law.specs.DegreeViews.{degrees_of, factors_of, level_of, share_of};

@@ -1,6 +1,5 @@
 ghost use Rattle.std.specs.Prelude.{◌≡◌, true, IfSome, Some};
-ghost use Rattle.exact_fraction.specs.Number.{of_ℤ, is_zero_ℚ, ◌≤ℚ◌};
-ghost use Rattle.exact_law.specs.Sums.{◌<ℚ◌};
+ghost use Rattle.exact_fraction.specs.Number.{of_ℤ, is_zero_ℚ, ◌≤ℚ◌, ◌<ℚ◌};
 ghost use Rattle.exact_law.specs.Rounding.{at_place, scaled_square, IsCorrelation, IsHundredths};
 ghost use Rattle.plain_law.specs.Numbers.{number};
 ghost use Rattle.plain_law.specs.DigitViews.{HasUnit, IsPlaceOf, AreDigits, AreDigitsOf};

@@ -15,8 +15,8 @@ pub struct Exact {
 }
 
 impl Exact {
-    ghost use Rattle.exact_fraction.specs.Number.{of_ℤ, ◌+ℚ◌, ◌*ℚ◌, ◌/ℚ◌, neg_ℚ, inv_ℚ, is_zero_ℚ, is_at_most_ℚ, floor_ℚ};
-    ghost use Rattle.exact_law.specs.Sums.{◌-ℚ◌, power, whole_power};
+    ghost use Rattle.exact_fraction.specs.Number.{of_ℤ, ◌+ℚ◌, ◌*ℚ◌, ◌/ℚ◌, neg_ℚ, inv_ℚ, is_zero_ℚ, is_at_most_ℚ, floor_ℚ, ◌-ℚ◌};
+    ghost use Rattle.exact_fraction.specs.Powers.{power, whole_power};
     ghost use Rattle.exact_law.specs.Model.{has_power};
     ghost use Rattle.plain_law.specs.Numbers.{number, signed};
 

@@ -1,6 +1,6 @@
 ghost use Rattle.std.specs.Prelude.{◌≡◌, IfSome, nat_eq};
 ghost use Rattle.exact_fraction.specs.Number.{◌*ℚ◌};
-ghost use Rattle.exact_law.specs.Sums.{total};
+ghost use Rattle.exact_fraction.specs.Sums.{total};
 ghost use Rattle.exact_law.specs.Model.{exact_slope};
 ghost use Rattle.exact_law.specs.Law.{joint, covariance, inputs_of, law, part_of};
 ghost use Rattle.plain_law.specs.Numbers.{number};

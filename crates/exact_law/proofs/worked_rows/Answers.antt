@@ -4,7 +4,7 @@ use std.Quotient.{/_rec, /_rec₂}
 use Rattle.exact_fraction.specs.Fraction.{◌⊕◌, ◌⊗◌, negated, inverse}
 use Rattle.exact_fraction.specs.Number.{◌+ℚ◌, ◌*ℚ◌, neg_ℚ, inv_ℚ, is_zero_ℚ}
 use Rattle.exact_fraction.proofs.Ring.{same_by_test}
-use Rattle.exact_law.specs.Sums.{total}
+use Rattle.exact_fraction.specs.Sums.{total}
 use Rattle.exact_law.specs.Model.{value, slope, replaced, body_of, estimate_in, estimate, replaced_body, expansion, expanded, unit, exact_value, exact_slope}
 use Rattle.exact_law.specs.Law.{cell, covariance_in, covariance, law_of, part, inputs_with, inputs_of, law, part_of}
 use Rattle.exact_law.specs.Degrees.{FiniteDegrees, counts, any_counts, weight, effective, inverse_degrees, share_of, shares_of, degrees_of}

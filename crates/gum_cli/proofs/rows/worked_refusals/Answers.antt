@@ -3,12 +3,11 @@ use Rattle.std.specs.Fmt.{digits}
 use std.Quotient.{/_rec, /_rec₂}
 use Rattle.exact_fraction.specs.Fraction as fraction
 use Rattle.exact_fraction.specs.Fraction.{◌⊕◌, ◌⊗◌, inverse, floor, is_at_most}
-use Rattle.exact_fraction.specs.Number.{◌+ℚ◌, ◌*ℚ◌, inv_ℚ, neg_ℚ, is_at_most_ℚ, floor_ℚ}
+use Rattle.exact_fraction.specs.Number.{◌+ℚ◌, ◌*ℚ◌, inv_ℚ, neg_ℚ, is_at_most_ℚ, floor_ℚ, min_ℚ, max_ℚ}
 use Rattle.decimal18.specs.Bound.{value_of}
 use Rattle.decimal18.specs.Down.{is_in_range, cut_off, down, up}
 use Rattle.decimal18.specs.Literal.{parsed}
 use Rattle.fixed_interval.specs.Interval.{outward}
-use Rattle.fixed_interval.specs.Extremes.{min_ℚ, max_ℚ}
 use Rattle.fixed_interval.specs.Rules.{quotient, holds_zero}
 use Rattle.fixed_interval.specs.Powers.{power_span}
 use Rattle.formula_ast.specs.Reading.{reading_of}

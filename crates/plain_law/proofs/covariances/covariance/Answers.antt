@@ -4,7 +4,7 @@ use Rattle.exact_fraction.specs.Number.{◌+ℚ◌}
 use Rattle.exact_law.specs.Law.{covariance_in, covariance}
 use Rattle.plain_law.specs.Numbers.{number}
 use Rattle.plain_law.specs.Groups.{group_of}
-use Rattle.plain_law.proofs.Totals.{none_yet, one_more, all_summed}
+use Rattle.exact_fraction.proofs.SumLaws.{none_yet, one_more, all_summed}
 use Rattle.plain_law.proofs.covariances.covariance.Goals as goal
 
 pub loop-group-init : goal.loop-group-init

@@ -1,6 +1,6 @@
 use Rattle.std.proofs.Common.{◌≡◌, drop, nat_eq}
 use Rattle.exact_fraction.specs.Number.{◌+ℚ◌}
-use Rattle.exact_law.specs.Sums.{total}
+use Rattle.exact_fraction.specs.Sums.{total}
 use Rattle.exact_law.specs.Law.{cell, joint}
 use Rattle.plain_law.specs.Numbers.{number}
 use Rattle.plain_law.specs.Groups.{column, columns}

@@ -1,11 +1,11 @@
 use Rattle.std.specs.Prelude.{nat_eq}
 use Rattle.std.proofs.Common.{◌∙◌, ap, sym}
 use Rattle.exact_fraction.specs.Number.{◌+ℚ◌}
-use Rattle.exact_law.specs.Sums.{total}
+use Rattle.exact_fraction.specs.Sums.{total}
 use Rattle.exact_law.specs.Law.{cell, joint}
 use Rattle.plain_law.specs.Numbers.{number}
 use Rattle.plain_law.specs.Groups.{column, columns}
-use Rattle.plain_law.proofs.Totals.{none_yet, one_more, all_summed}
+use Rattle.exact_fraction.proofs.SumLaws.{none_yet, one_more, all_summed}
 use Rattle.plain_law.proofs.covariances.in_table.Goals as goal
 
 pub loop-a-init : goal.loop-a-init

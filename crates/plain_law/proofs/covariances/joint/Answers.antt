@@ -1,8 +1,8 @@
 use Rattle.std.specs.Prelude.{pos}
 use Rattle.std.proofs.Common.{◌∙◌, ap, ap₂}
 use Rattle.std.proofs.lemmas.Option.{IfSome_then}
-use Rattle.exact_fraction.specs.Number.{of_ℤ, ◌*ℚ◌, ◌/ℚ◌}
-use Rattle.exact_law.specs.Sums.{total, below, ◌-ℚ◌}
+use Rattle.exact_fraction.specs.Number.{of_ℤ, ◌*ℚ◌, ◌/ℚ◌, ◌-ℚ◌}
+use Rattle.exact_fraction.specs.Sums.{total, below}
 use Rattle.exact_law.specs.Law.{joint}
 use Rattle.plain_law.specs.Groups.{reading}
 use Rattle.plain_law.proofs.covariances.joint.Goals as goal

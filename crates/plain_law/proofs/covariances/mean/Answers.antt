@@ -1,7 +1,7 @@
 use Rattle.std.proofs.Common.{◌∙◌, ap, ap₂}
 use Rattle.std.proofs.lemmas.Option.{IfSome_then}
 use Rattle.exact_fraction.specs.Number.{◌/ℚ◌}
-use Rattle.exact_law.specs.Sums.{total, below}
+use Rattle.exact_fraction.specs.Sums.{total, below}
 use Rattle.exact_law.specs.Law.{mean}
 use Rattle.plain_law.specs.Groups.{reading}
 use Rattle.plain_law.proofs.covariances.mean.Goals as goal

@@ -2,7 +2,7 @@ use Rattle.std.proofs.Common.{◌∙◌, ap}
 use Rattle.exact_fraction.specs.Number.{◌+ℚ◌}
 use Rattle.plain_law.specs.Numbers.{number}
 use Rattle.plain_law.specs.Groups.{reading}
-use Rattle.plain_law.proofs.Totals.{below_zero, below_next}
+use Rattle.exact_fraction.proofs.SumLaws.{below_zero, below_next}
 use Rattle.plain_law.proofs.covariances.sum_of.Goals as goal
 
 pub loop-index-init : goal.loop-index-init

@@ -1,6 +1,6 @@
 use Rattle.std.proofs.Common.{◌≡◌}
 use Rattle.exact_fraction.specs.Number.{◌*ℚ◌}
-use Rattle.exact_law.specs.Sums.{total, below}
+use Rattle.exact_fraction.specs.Sums.{total, below}
 use Rattle.plain_law.specs.Numbers.{number}
 use Rattle.plain_law.specs.Groups.{reading}
 use Rattle.plain_law.proofs.covariances.sum_of_products.Given as goal

@@ -1,5 +1,5 @@
 use Rattle.std.proofs.Common.{map, arith}
-use Rattle.exact_law.specs.Sums.{total}
+use Rattle.exact_fraction.specs.Sums.{total}
 use Rattle.exact_law.specs.Degrees.{weight}
 use Rattle.plain_law.specs.Numbers.{number}
 use Rattle.plain_law.specs.DegreeViews.{share_of}

@@ -1,6 +1,6 @@
 use Rattle.std.proofs.Common.{◌≡◌, map, drop}
 use Rattle.exact_fraction.specs.Number.{◌+ℚ◌}
-use Rattle.exact_law.specs.Sums.{total}
+use Rattle.exact_fraction.specs.Sums.{total}
 use Rattle.exact_law.specs.Degrees.{weight}
 use Rattle.plain_law.specs.Numbers.{number}
 use Rattle.plain_law.specs.DegreeViews.{share_of}

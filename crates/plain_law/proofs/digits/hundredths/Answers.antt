@@ -1,5 +1,5 @@
 use Rattle.exact_fraction.proofs.OrderLaws.{*ℚ-not_negative}
-use Rattle.exact_law.proofs.Order.{whole-not_negative}
+use Rattle.exact_fraction.proofs.Signs.{whole-not_negative}
 use Rattle.plain_law.proofs.PlaceLemmas.{at_most_by}
 use Rattle.plain_law.proofs.digits.hundredths.Goals as goal
 

@@ -1,4 +1,4 @@
-use Rattle.exact_law.specs.Sums.{◌<ℚ◌}
+use Rattle.exact_fraction.specs.Number.{◌<ℚ◌}
 use Rattle.exact_law.specs.Rounding.{scaled_square}
 use Rattle.plain_law.specs.Numbers.{number}
 use Rattle.plain_law.specs.DigitViews.{HasUnit}

@@ -1,7 +1,7 @@
 use Rattle.std.specs.Prelude.{nat_eq}
 use Rattle.std.proofs.Common.{◌∙◌, ap, sym}
 use Rattle.exact_fraction.specs.Number.{◌+ℚ◌, ◌*ℚ◌}
-use Rattle.exact_law.specs.Sums.{total}
+use Rattle.exact_fraction.specs.Sums.{total}
 use Rattle.exact_law.specs.Model.{exact_slope}
 use Rattle.exact_law.specs.Law.{covariance, inputs_of, law_of, law}
 use Rattle.plain_law.specs.Numbers.{number}

@@ -1,6 +1,6 @@
 use Rattle.std.proofs.Common.{◌≡◌, drop, nat_eq}
 use Rattle.exact_fraction.specs.Number.{◌+ℚ◌, ◌*ℚ◌}
-use Rattle.exact_law.specs.Sums.{total}
+use Rattle.exact_fraction.specs.Sums.{total}
 use Rattle.exact_law.specs.Model.{exact_slope}
 use Rattle.exact_law.specs.Law.{joint}
 use Rattle.plain_law.specs.Numbers.{number}

@@ -2,7 +2,8 @@ use Rattle.std.proofs.Common.{◌∙◌, arith}
 use Rattle.std.proofs.lemmas.Int.{ints, to_z-of_z}
 use Rattle.std.proofs.lemmas.Option.{IfSome_then}
 use Rattle.plain_law.specs.Numbers.{number}
-use Rattle.plain_law.proofs.Powers.{power_up, power_down, has_power_up, has_power_down}
+use Rattle.exact_fraction.proofs.PowerLaws.{power_up, power_down}
+use Rattle.plain_law.proofs.Powers.{has_power_up, has_power_down}
 use Rattle.plain_law.proofs.fraction.Exact.power.Goals as goal
 
 pub returns-then-exponent-ge0-clause-power : goal.returns-then-exponent-ge0-clause-power

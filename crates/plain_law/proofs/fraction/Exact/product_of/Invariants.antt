@@ -1,5 +1,5 @@
 use Rattle.std.proofs.Common.{◌≡◌}
-use Rattle.exact_law.specs.Sums.{power}
+use Rattle.exact_fraction.specs.Powers.{power}
 use Rattle.plain_law.specs.Numbers.{number}
 use Rattle.plain_law.proofs.fraction.Exact.product_of.Given as goal
 

@@ -1,16 +1,15 @@
--- Lemmas on the order of the numbers and on sums of numbers that are not negative.
-use Rattle.std.specs.Prelude.{◌≡◌, ℕ, Bool, true, false, List, [], ◌∷◌, pos, ◌⊎◌, refl}
-use Rattle.std.proofs.Common.{sym, ◌∙◌, ap, arith, inl, inr}
+-- Numbers that are not negative, and products that are 0.
+use Rattle.std.specs.Prelude.{◌≡◌, ℕ, Bool, true, false, List, [], ◌∷◌, pos, refl}
+use Rattle.std.proofs.Common.{sym, ◌∙◌, ap, arith}
 use Rattle.std.proofs.lemmas.Int.{ints}
-use Rattle.std.proofs.lemmas.Bool.{true≢false}
 use std.Quotient.{/_rec}
 use Rattle.exact_fraction.specs.Fraction.{inverse}
-use Rattle.exact_fraction.specs.Number.{ℚ, of_ℤ, ◌*ℚ◌, inv_ℚ, is_zero_ℚ, is_at_most_ℚ, ◌≤ℚ◌}
-use Rattle.exact_fraction.specs.NumberLaws.{≤ℚ_refl, ≤ℚ_trans, ≤ℚ_same, ≤ℚ-turned, of_ℤ-≤ℚ, *ℚ-inv}
+use Rattle.exact_fraction.specs.Number.{ℚ, of_ℤ, ◌*ℚ◌, inv_ℚ, is_zero_ℚ, ◌≤ℚ◌}
+use Rattle.exact_fraction.specs.NumberLaws.{≤ℚ_refl, ≤ℚ_same, of_ℤ-≤ℚ, *ℚ-inv}
+use Rattle.exact_fraction.specs.Sums.{total}
 use Rattle.exact_fraction.proofs.Quotients.{is_zero_ℚ-≡}
 use Rattle.exact_fraction.proofs.OrderLaws.{≤ℚ_right, *ℚ-≤ℚ_left, +ℚ-not_negative, inv_ℚ-not_negative}
 use Rattle.exact_fraction.proofs.Ring.{Whole, ◌:*◌, x0, x1, x2, ring}
-use Rattle.exact_law.specs.Sums.{total, ◌<ℚ◌}
 
 -- a number that is not negative, and its equals
 pub not_negative-same : (x y : ℚ) → x ≡ y → of_ℤ (pos 0) ≤ℚ y → of_ℤ (pos 0) ≤ℚ x
@@ -35,34 +34,9 @@ unfolding total
 total-not_negative f [] h = ≤ℚ_refl _
 total-not_negative f (x ∷ xs) h = +ℚ-not_negative _ _ (h x) (total-not_negative f xs h)
 
--- ---- the strict order
-pub below_not : (x y : ℚ) → x <ℚ y → y ≤ℚ x → ⊥
-below_not x y h k = absurd (true≢false (sym k.holds ∙ h.not_above))
-
-pub below_by : (x y : ℚ) → (y ≤ℚ x → ⊥) → x <ℚ y
-below_by x y h = by (is_at_most_ℚ y x) refl where
-  by : (b : Bool) → is_at_most_ℚ y x ≡ b → x <ℚ y
-  by true e = absurd (h (record { holds = e }))
-  by false e = record { not_above = e }
-
-pub below_or_not : (x y : ℚ) → (x <ℚ y) ⊎ (y ≤ℚ x)
-below_or_not x y = by (is_at_most_ℚ y x) refl where
-  by : (b : Bool) → is_at_most_ℚ y x ≡ b → (x <ℚ y) ⊎ (y ≤ℚ x)
-  by true e = inr (record { holds = e })
-  by false e = inl (record { not_above = e })
-
-pub ≤ℚ-<ℚ : (x y z : ℚ) → x ≤ℚ y → y <ℚ z → x <ℚ z
-≤ℚ-<ℚ x y z h k = below_by x z (λ g. below_not y z k (≤ℚ_trans z x y g h))
-
-pub <ℚ-≤ℚ : (x y z : ℚ) → x <ℚ y → y ≤ℚ z → x <ℚ z
-<ℚ-≤ℚ x y z h k = below_by x z (λ g. below_not x y h (≤ℚ_trans y z x k g))
-
--- ---- along a positive whole factor
+-- along a whole factor that is not negative
 pub times-≤ℚ : (k : ℕ) (x y : ℚ) → x ≤ℚ y → of_ℤ (pos k) *ℚ x ≤ℚ of_ℤ (pos k) *ℚ y
 times-≤ℚ k x y h = *ℚ-≤ℚ_left x y (of_ℤ (pos k)) (whole-not_negative k) h
-
-pub below_at_most : (x y : ℚ) → x <ℚ y → x ≤ℚ y
-below_at_most x y h = ≤ℚ-turned y x h.not_above
 
 -- ---- products that are 0
 pub product_zero : (x y : ℚ) → is_zero_ℚ x ≡ false → x *ℚ y ≡ of_ℤ (pos 0) → y ≡ of_ℤ (pos 0)
