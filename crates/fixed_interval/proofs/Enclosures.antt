@@ -1,16 +1,33 @@
--- What a span that was rounded outwards encloses.
-use Rattle.std.specs.Prelude.{◌≡◌, Option, None, Some, Result, IfOk, refl}
+-- What a point and a span that was rounded outwards enclose.
+use Rattle.std.specs.Prelude.{◌≡◌, Option, None, Some, Result, IfOk, ℤ, pos, refl}
 use Rattle.std.specs.Option.{ok_or, ForSome}
-use Rattle.std.proofs.Common.{sym, ap, ◌∙◌}
+use Rattle.std.proofs.Common.{sym, ap, subst, ◌∙◌}
 use Rattle.std.proofs.lemmas.Option.{none-some, same_Some}
-use Rattle.exact_fraction.specs.Number.{ℚ, ◌+ℚ◌, ◌≤ℚ◌}
-use Rattle.exact_fraction.specs.NumberLaws.{≤ℚ_trans, +ℚ-≤ℚ_both}
-use Rattle.decimal18.specs.Bound.{Bound, value_of}
+use Rattle.exact_fraction.specs.Number.{ℚ, of_ℤ, ◌+ℚ◌, ◌≤ℚ◌}
+use Rattle.exact_fraction.specs.NumberLaws.{≤ℚ_refl, ≤ℚ_trans, +ℚ-≤ℚ_both}
+use Rattle.decimal18.specs.Bound.{Bound, scaled, value_of}
 use Rattle.decimal18.specs.Down.{down, up}
+use Rattle.decimal18.proofs.Values.{value-whole}
 use Rattle.decimal18.proofs.Rounding.{down_some}
 use Rattle.decimal18.proofs.Upward.{up_some}
-use Rattle.fixed_interval.specs.Interval.{Interval, Encloses, IsOrdered, from_ends, outward, sum_span}
+use Rattle.fixed_interval.specs.Interval.{Interval, Encloses, IsOrdered, from_ends, outward, point_span, sum_span}
+use Rattle.fixed_interval.specs.Rules.{one_bound}
+use Rattle.fixed_interval.specs.Sums.{zero_span}
 
+-- ---- points
+pub point_encloses : (b : Bound) → Encloses (point_span b) (value_of b)
+point_encloses b = record { low = ≤ℚ_refl (value_of b); high = ≤ℚ_refl (value_of b) }
+
+pub whole_encloses : (z : ℤ) → Encloses (point_span (scaled z 0)) (of_ℤ z)
+whole_encloses z = subst (Encloses (point_span (scaled z 0))) (value-whole z) (point_encloses (scaled z 0))
+
+pub zero_encloses : Encloses zero_span (of_ℤ (pos 0))
+zero_encloses = whole_encloses (pos 0)
+
+pub one_encloses : Encloses (point_span one_bound) (of_ℤ (pos 1))
+one_encloses = whole_encloses (pos 1)
+
+-- ---- spans that were rounded outwards
 -- both ends are the answers of `down` and `up`
 pub record IsOutward (least greatest : ℚ) (s : Interval) : Type 0 where
   pub lo : down least ≡ Some s.lo

@@ -8,16 +8,15 @@ use Rattle.std.proofs.lemmas.Bool.{cond-true, cond-false, le-leb, lt-leb, ne_eqb
 use Rattle.std.proofs.lemmas.Option.{none-some, same_Some}
 use Rattle.exact_fraction.specs.Number.{ℚ, of_ℤ, ◌*ℚ◌, ◌/ℚ◌, inv_ℚ}
 use Rattle.exact_fraction.specs.Powers.{power, whole_power}
-use Rattle.exact_fraction.specs.NumberLaws.{≤ℚ_refl}
 use Rattle.exact_fraction.proofs.PowerLaws.{power-suc, power-one, power-+, whole_power-pos, whole_power-negsuc}
 use Rattle.std.proofs.lemmas.Int.{ints}
 use Rattle.decimal18.specs.Bound.{Bound}
-use Rattle.decimal18.proofs.Values.{value-whole}
 use Rattle.exact_fraction.proofs.Ring.{◌:*◌, Whole, x0, x1, x2, ring}
 use Rattle.fixed_interval.specs.Interval.{Interval, Encloses, point_span}
 use Rattle.fixed_interval.specs.declared.faults.ArithFault.{ArithFault}
 use Rattle.fixed_interval.specs.Rules.{one_bound, product_span, square_span}
 use Rattle.fixed_interval.specs.Powers.{then_span, power_by, power_span, steps_by, power_steps}
+use Rattle.fixed_interval.proofs.Enclosures.{one_encloses}
 use Rattle.fixed_interval.proofs.Inclusions.{product_span_encloses, square_span_encloses}
 
 -- one halving, with the power by the half
@@ -179,9 +178,6 @@ positive_encloses a s (pos k) n e h f q j =
     rw (whole_power-pos q k) (power_span_encloses a q j k (omega (arith, ints)) s (rw e at f))
 positive_encloses a s (negsuc k) n e h f q j = absurd (omega (arith, ints))
 
-one_encloses : (one : Bound) → one ≡ one_bound → Encloses (point_span one) (of_ℤ (pos 1))
-one_encloses one e = rw (e, ← value-whole (pos 1)) (record { low = ≤ℚ_refl _; high = ≤ℚ_refl _ })
-
 pub negative_encloses : (a s : Interval) (one : Bound) (k : ℤ) (n : ℕ) (r : Result Interval ArithFault) → n ≡ unsigned_abs k → k ≤ℤ pos 0
     → k ≢ pos 0 → power_span a n ≡ Some s → one ≡ one_bound
     → ((x y : ℚ) → Encloses (point_span one) x → Encloses s y → IfOk r (λ t. Encloses t (x /ℚ y)))
@@ -190,4 +186,4 @@ negative_encloses a s one (pos k) n r e h m f o g q j = absurd (m (omega (arith,
 negative_encloses a s one (negsuc k) n r e h m f o g q j =
     let y : ℚ = power q (suc k) in
     let inner : Encloses s y = power_span_encloses a q j (suc k) (omega arith) s (rw e at f) in
-    subst (λ z. IfOk r (λ t. Encloses t z)) (ring (inv_ℚ y ∷ []) (Whole (pos 1) :* x0) x0 refl ∙ sym (whole_power-negsuc q k)) (g (of_ℤ (pos 1)) y (one_encloses one o) inner)
+    subst (λ z. IfOk r (λ t. Encloses t z)) (ring (inv_ℚ y ∷ []) (Whole (pos 1) :* x0) x0 refl ∙ sym (whole_power-negsuc q k)) (g (of_ℤ (pos 1)) y (rw o one_encloses) inner)

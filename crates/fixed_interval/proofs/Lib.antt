@@ -7,3 +7,4 @@ pub mod Raising
 pub mod Negatives
 pub mod Shares
 pub mod Halving
+pub mod Sums

@@ -2,3 +2,4 @@ pub mod Interval
 pub mod Extremes
 pub mod Rules
 pub mod Powers
+pub mod Sums

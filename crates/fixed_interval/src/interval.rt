@@ -1,9 +1,10 @@
-ghost use Rattle.std.specs.Prelude.{◌≡◌, ◌+◌, Option, IfOk};
+ghost use Rattle.std.specs.Prelude.{◌≡◌, ◌+◌, if◌then◌else◌, [], ◌∷◌, Option, Some, is_some, IfOk};
 ghost use Rattle.std.specs.Option.{ForSome, ok_or};
 ghost use Rattle.exact_fraction.specs.Number.{ℚ, ◌+ℚ◌, neg_ℚ, ◌≤ℚ◌};
 ghost use Rattle.decimal18.specs.Bound.{value_of};
 ghost use Rattle.fixed_interval.specs.Interval.{Encloses, IsOrdered, from_ends, point_span, sum_span};
 ghost use Rattle.fixed_interval.specs.Rules.{zero_bound, difference_span, negative_span};
+ghost use Rattle.fixed_interval.specs.Sums.{sum_after};
 
 use crate::bounds::whole_number;
 use crate::counter::Steps;
@@ -111,6 +112,26 @@ pub fn add<L: Ledger>(a: &Span, b: &Span, steps: &mut Steps<L>) -> Result<Span, 
 {
     steps.tick();
     Span::from_ends(add_down(a.lo, b.lo), add_up(a.hi, b.hi)).ok_or(Overflow)
+}
+
+/// The sum with one term more, which is the sum itself where it is the first one. It ticks once where a
+/// sum had begun.
+///
+/// # Errors
+///
+/// [`Overflow`] exactly where an end of the sum is out of the range of bounds.
+pub fn plus<L: Ledger>(
+    sum: Option<Span>,
+    term: &Span,
+    steps: &mut Steps<L>,
+) -> Result<Span, Overflow>
+    ensures span { result ≡ ok_or (sum_after sum (Some term.now ∷ [])) (record {}) }
+    ensures ticks { steps.new ≡ steps.old + (if is_some sum then 1 else 0) }
+{
+    match sum {
+        Some(sum) => add(&sum, term, steps),
+        None => Ok(*term),
+    }
 }
 
 /// The span of the differences of a number in `a` and a number in `b`, its ends rounded outwards. It

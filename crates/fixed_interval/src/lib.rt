@@ -15,7 +15,7 @@ mod tests;
 
 pub use counter::Steps;
 pub use faults::{ArithFault, Overflow, Truth};
-pub use interval::{Span, add, ends, neg, point, sub, zero};
-pub use laws::{worked_spans, worked_steps};
+pub use interval::{Span, add, ends, neg, plus, point, sub, zero};
+pub use laws::{sums_enclose, worked_spans, worked_steps, worked_sums};
 pub use limits::{at_most, cut, floor_at, ratio, share};
 pub use products::{div, mul, pow, sqr};

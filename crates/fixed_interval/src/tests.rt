@@ -3,7 +3,7 @@ ghost use Rattle.decimal18.specs.Bound.{scaled};
 
 use crate::{
     ArithFault, Overflow, Span, Steps, Truth, add, at_most, cut, div, ends, floor_at, mul, neg,
-    point, pow, ratio, sqr, sub, zero,
+    plus, point, pow, ratio, sqr, sub, zero,
 };
 use decimal18::Dec;
 use exact_fraction::Ratio;
@@ -55,6 +55,11 @@ fn sums<L: Ledger>(rt: &impl Abort, blank: Blank) -> Result<(), Fail>
     assert_eq!(rt; difference.map(|s| shown(&s)), Some((-1, 0, -1, 0)));
     let most = point(decimal(MOST, 0)?, &mut steps);
     assert_eq!(rt; add(&most, &two, &mut steps), Err(Overflow));
+    let first: Option<Span> = plus(None, &two, &mut steps).ok();
+    assert_eq!(rt; first.map(|s| shown(&s)), Some((2, 0, 2, 0)));
+    let next: Option<Span> = plus(first, &three, &mut steps).ok();
+    assert_eq!(rt; next.map(|s| shown(&s)), Some((5, 0, 5, 0)));
+    assert_eq!(rt; plus(Some(most), &two, &mut steps), Err(Overflow));
     assert_eq!(rt; shown(&neg(&two, &mut steps)), (-2, 0, -2, 0));
     assert_eq!(rt; shown(&zero()), (0, 0, 0, 0));
     Ok(())

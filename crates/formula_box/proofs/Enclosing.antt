@@ -2,18 +2,16 @@
 use Rattle.std.specs.Prelude.{◌≡◌, ℕ, zero, suc, ℤ, pos, negsuc, Bool, true, false, List, [], ◌∷◌, Option, None, Some, Result, Ok, Err, IfOk, refl}
 use Rattle.std.proofs.Common.{sym, subst, arith}
 use Rattle.exact_fraction.specs.Number.{ℚ, of_ℤ, inv_ℚ}
-use Rattle.exact_fraction.specs.NumberLaws.{≤ℚ_refl}
 use Rattle.exact_fraction.proofs.PowerLaws.{base_not_zero}
 use Rattle.exact_fraction.proofs.Ring.{ring, Whole, ◌:*◌, x0}
 use Rattle.exact_fraction.specs.Powers.{power, whole_power}
 use Rattle.exact_law.specs.Model.{value, is_defined, has_power}
 use Rattle.decimal18.specs.Bound.{Bound, value_of}
-use Rattle.decimal18.proofs.Values.{value-whole}
 use Rattle.fixed_interval.specs.Interval.{Interval, Encloses, point_span, sum_span}
 use Rattle.fixed_interval.specs.Rules.{one_bound, difference_span, product_span, quotient, holds_zero}
 use Rattle.fixed_interval.specs.Powers.{power_span, as_answer, inverted, power as span_power}
 use Rattle.fixed_interval.specs.declared.faults.ArithFault.{ArithFault}
-use Rattle.fixed_interval.proofs.Enclosures.{sum_span_encloses}
+use Rattle.fixed_interval.proofs.Enclosures.{point_encloses, one_encloses, sum_span_encloses}
 use Rattle.fixed_interval.proofs.Inclusions.{difference_span_encloses, product_span_encloses, quotient_encloses, quotient_by_zero, not_zero}
 use Rattle.fixed_interval.proofs.Negatives.{negative_span_encloses}
 use Rattle.fixed_interval.proofs.Halving.{power_span_encloses}
@@ -36,13 +34,6 @@ pub then_holds : (r : Answer) (next : Interval → Answer) (P Q : Interval → T
     → ((s : Interval) → P s → IfOk (next s) Q) → IfOk (then_with r next) Q
 then_holds (Err fault) next P Q h k = tt
 then_holds (Ok s) next P Q h k = k s h
-
--- ---- points
-pub point_encloses : (b : Bound) → Encloses (point_span b) (value_of b)
-point_encloses b = record { low = ≤ℚ_refl (value_of b); high = ≤ℚ_refl (value_of b) }
-
-pub one_encloses : Encloses (point_span one_bound) (of_ℤ (pos 1))
-one_encloses = subst (Encloses (point_span one_bound)) (value-whole (pos 1)) (point_encloses one_bound)
 
 pub some_of_answer : (o : Option Interval) (s : Interval) → as_answer o ≡ Ok s → o ≡ Some s
 some_of_answer None s e = cc

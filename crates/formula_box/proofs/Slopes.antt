@@ -11,40 +11,19 @@ use Rattle.fixed_interval.specs.Interval.{Interval, Encloses, point_span, sum_sp
 use Rattle.fixed_interval.specs.Rules.{one_bound, difference_span, product_span, negative_span, quotient}
 use Rattle.fixed_interval.specs.Powers.{power_span, then_span}
 use Rattle.fixed_interval.specs.declared.faults.ArithFault.{ArithFault}
-use Rattle.fixed_interval.proofs.Enclosures.{sum_span_encloses}
-use Rattle.fixed_interval.proofs.Inclusions.{difference_span_encloses, product_span_encloses, quotient_encloses}
+use Rattle.fixed_interval.specs.Sums.{zero_span, both, Holds}
+use Rattle.fixed_interval.proofs.Enclosures.{whole_encloses, zero_encloses, one_encloses}
+use Rattle.fixed_interval.proofs.Inclusions.{quotient_encloses}
+use Rattle.fixed_interval.proofs.Sums.{some_holds, both_holds, sum_holds, difference_holds, product_holds}
 use Rattle.fixed_interval.proofs.Negatives.{negative_span_encloses}
 use Rattle.fixed_interval.proofs.Halving.{power_span_encloses}
 use Rattle.formula_ast.specs.Trees.{Tree, Number, Variable, Opposite, Joined, Raised, IsExponent, HasExponents}
 use Rattle.formula_ast.specs.declared.token.Sign.{Sign}
 use Rattle.formula_ast.specs.declared.token.Sign.TheVariants.{Plus, Minus, Times, Over}
 use Rattle.formula_box.specs.Values.{Answer, span_of, then_with, in_range}
-use Rattle.formula_box.specs.Slopes.{zero_span, occurs, both, divided, quotient_there, joined_slope, rising_factor, falling_factor, power_slope, there, where_used, slope_of, partial_of}
+use Rattle.formula_box.specs.Slopes.{occurs, divided, quotient_there, joined_slope, rising_factor, falling_factor, power_slope, there, where_used, slope_of, partial_of}
 use Rattle.formula_box.specs.Exact.{expression_of, AreEnclosed, HasValueWithin, derivative}
-use Rattle.formula_box.proofs.Enclosing.{point_encloses, one_encloses, from_holds}
-
--- a span that is there encloses q
-abbrev pub Holds : Option Interval → ℚ → Type 0
-Holds o q = IfSome o (λ s. Encloses s q)
-
-some_holds : (o : Option Interval) (q : ℚ) → ((s : Interval) → o ≡ Some s → Encloses s q) → Holds o q
-some_holds None q h = tt
-some_holds (Some s) q h = h s refl
-
-both_holds : (o p : Option Interval) (f : Interval → Interval → Option Interval) (x y z : ℚ) → Holds o x → Holds p y
-    → ((a b s : Interval) → f a b ≡ Some s → Encloses a x → Encloses b y → Encloses s z) → Holds (both o p f) z
-both_holds None p f x y z h k rule = tt
-both_holds (Some a) None f x y z h k rule = tt
-both_holds (Some a) (Some b) f x y z h k rule = some_holds (f a b) z (λ s e. rule a b s e h k)
-
-sum_holds : (o p : Option Interval) (x y : ℚ) → Holds o x → Holds p y → Holds (both o p sum_span) (x +ℚ y)
-sum_holds o p x y h k = both_holds o p sum_span x y _ h k (λ a b s e i j. sum_span_encloses a b s e x y i j)
-
-difference_holds : (o p : Option Interval) (x y : ℚ) → Holds o x → Holds p y → Holds (both o p difference_span) (x +ℚ neg_ℚ y)
-difference_holds o p x y h k = both_holds o p difference_span x y _ h k (λ a b s e i j. difference_span_encloses a b s e x y i j)
-
-product_holds : (o p : Option Interval) (x y : ℚ) → Holds o x → Holds p y → Holds (both o p product_span) (x *ℚ y)
-product_holds o p x y h k = both_holds o p product_span x y _ h k (λ a b s e i j. product_span_encloses a b s e x y i j)
+use Rattle.formula_box.proofs.Enclosing.{from_holds}
 
 ok_of_divided : (r : Result Interval ArithFault) (s : Interval) → divided r ≡ Some s → r ≡ Ok s
 ok_of_divided (Err fault) s e = cc
@@ -59,9 +38,6 @@ power_holds : (o : Option Interval) (x : ℚ) (k : ℕ) → 0 < k → Holds o x 
 power_holds None x k k0 h = tt
 power_holds (Some a) x k k0 h =
     some_holds (power_span a k) _ (λ s e. power_span_encloses a x h k k0 s e)
-
-whole_holds : (z : ℤ) → Encloses (point_span (scaled z 0)) (of_ℤ z)
-whole_holds z = subst (Encloses (point_span (scaled z 0))) (value-whole z) (point_encloses (scaled z 0))
 
 -- ---- the rules
 abbrev joined_derivative : Sign → (v w x d e : ℚ) → ℚ
@@ -85,7 +61,7 @@ rising_holds k v vq h =
     let less : suc (suc k) - 1 ≡ suc k = omega arith in
     rw less
     (product_holds (Some (point_span (scaled (pos (suc (suc k))) 0))) (then_span v (λ s. power_span s (suc k))) _ _
-    (whole_holds (pos (suc (suc k)))) (power_holds v vq (suc k) (omega arith) h))
+    (whole_encloses (pos (suc (suc k)))) (power_holds v vq (suc k) (omega arith) h))
 
 power_slope_holds : (k : ℤ) → IsExponent k → (v x d : Option Interval) (vq dq : ℚ) → Holds v vq → Holds x (whole_power vq k) → Holds d dq
     → Holds (power_slope k v x d) (exact_power_slope vq k *ℚ dq)
@@ -97,7 +73,7 @@ power_slope_holds (pos (suc (suc k))) i v x d vq dq hv hx hd =
     product_holds (rising_factor (suc (suc k)) v) d _ dq (rising_holds k v vq hv) hd
 power_slope_holds (negsuc k) i v x d vq dq hv hx hd =
     product_holds (falling_factor (negsuc k) v x) d _ dq
-    (quotient_holds _ v _ vq (product_holds (Some (point_span (scaled (negsuc k) 0))) x _ _ (whole_holds (negsuc k)) hx) hv) hd
+    (quotient_holds _ v _ vq (product_holds (Some (point_span (scaled (negsuc k) 0))) x _ _ (whole_encloses (negsuc k)) hx) hv) hd
 
 -- ---- a name that does not occur
 or_left : (a b : Bool) → (a || b) ≡ false → a ≡ false
@@ -123,7 +99,7 @@ joined_is v n Minus a b = refl
 joined_is v n Times a b = refl
 joined_is v n Over a b = refl
 
-not_used : (v : List ℕ → ℚ) (n : List ℕ) (f : Tree) → occurs n f ≡ false → derivative v n f ≡ of_ℤ (pos 0)
+pub not_used : (v : List ℕ → ℚ) (n : List ℕ) (f : Tree) → occurs n f ≡ false → derivative v n f ≡ of_ℤ (pos 0)
 unfolding slope unit
 not_used v n (Number q) h = refl
 not_used v n (Variable m) h = rw h refl
@@ -135,12 +111,9 @@ not_used v n (Raised a e) h =
     rw (not_used v n a h) (ring (exact_power_slope (value v (expression_of a)) e ∷ []) (x0 :* Whole (pos 0)) (Whole (pos 0)) refl)
 
 -- ---- formulas
-zero_holds : Encloses zero_span (of_ℤ (pos 0))
-zero_holds = whole_holds (pos 0)
-
 where_holds : (used : Bool) (o : Option Interval) (q : ℚ) → (used ≡ false → q ≡ of_ℤ (pos 0)) → Holds o q → Holds (where_used used o) q
 where_holds true o q h k = k
-where_holds false o q h k = rw (h refl) zero_holds
+where_holds false o q h k = rw (h refl) zero_encloses
 
 value_holds : (r : Answer) (v : List ℕ → ℚ) (known : List ℕ → Bool) (f : Tree) → IfOk r (HasValueWithin v known f)
     → Holds (there r) (value v (expression_of f))
@@ -159,12 +132,12 @@ opposite_holds (Some s) q h = negative_span_encloses s q h
 name_holds : (n m : List ℕ) (t : Bool) → bytes_eq n m ≡ t
     → Holds (Some (cond t (point_span one_bound) zero_span)) (cond t (of_ℤ (pos 1)) (of_ℤ (pos 0)))
 name_holds n m true e = one_encloses
-name_holds n m false e = zero_holds
+name_holds n m false e = zero_encloses
 
-slope_holds : (given : List ℕ → Option Interval) (v : List ℕ → ℚ) (known : List ℕ → Bool) → AreEnclosed given v known
+pub slope_holds : (given : List ℕ → Option Interval) (v : List ℕ → ℚ) (known : List ℕ → Bool) → AreEnclosed given v known
     → (n : List ℕ) (f : Tree) → HasExponents f → Holds (slope_of given n f) (derivative v n f)
 unfolding slope unit value
-slope_holds given v known all n (Number q) h = zero_holds
+slope_holds given v known all n (Number q) h = zero_encloses
 slope_holds given v known all n (Variable m) h = name_holds n m (bytes_eq n m) refl
 slope_holds given v known all n (Opposite a) h =
     where_holds (occurs n a) _ _ (λ e. not_used v n (Opposite a) e) (opposite_holds _ _ (slope_holds given v known all n a h))

@@ -3,16 +3,14 @@
 use Rattle.std.specs.Prelude.{ℕ, zero, suc, ◌-◌, ℤ, pos, negsuc, Bool, false, ◌||◌, cond, List, bytes_eq, Option, None, Some, Result, Ok, Err}
 use Rattle.decimal18.specs.Bound.{scaled}
 use Rattle.fixed_interval.specs.Interval.{Interval, point_span, sum_span}
-use Rattle.fixed_interval.specs.Rules.{zero_bound, one_bound, difference_span, product_span, negative_span, quotient}
+use Rattle.fixed_interval.specs.Rules.{one_bound, difference_span, product_span, negative_span, quotient}
 use Rattle.fixed_interval.specs.Powers.{power_span, then_span}
+use Rattle.fixed_interval.specs.Sums.{zero_span, both}
 use Rattle.fixed_interval.specs.declared.faults.ArithFault.{ArithFault}
 use Rattle.formula_ast.specs.Trees.{Tree, Number, Variable, Opposite, Joined, Raised}
 use Rattle.formula_ast.specs.declared.token.Sign.{Sign}
 use Rattle.formula_ast.specs.declared.token.Sign.TheVariants.{Plus, Minus, Times, Over}
 use Rattle.formula_box.specs.Values.{Answer, then_with, in_range, span_of}
-
-abbrev pub zero_span : Interval
-zero_span = point_span zero_bound
 
 -- whether the name occurs in the formula
 abbrev pub occurs : List ℕ → Tree → Bool
@@ -21,12 +19,6 @@ occurs n (Variable m) = bytes_eq n m
 occurs n (Opposite a) = occurs n a
 occurs n (Joined s a b) = occurs n a || occurs n b
 occurs n (Raised a e) = occurs n a
-
--- an operation on two spans, where both are there
-abbrev pub both : Option Interval → Option Interval → (Interval → Interval → Option Interval) → Option Interval
-both None t f = None
-both (Some s) None f = None
-both (Some s) (Some t) f = f s t
 
 -- a quotient whose divisor is one of the formula's own: where that has a value, 0 is not in it
 abbrev pub divided : Result Interval ArithFault → Option Interval

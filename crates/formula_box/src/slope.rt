@@ -6,7 +6,8 @@ ghost use Rattle.fixed_interval.specs.Rules.{one_bound, difference_span, product
 ghost use Rattle.fixed_interval.specs.Powers.{then_span, steps_of_power};
 ghost use Rattle.formula_ast.specs.Trees.{IsExponent};
 ghost use Rattle.formula_ast.specs.declared.token.Sign.TheVariants.{Plus, Minus, Times, Over};
-ghost use Rattle.formula_box.specs.Slopes.{zero_span, both, quotient_there, joined_slope, power_slope, where_used};
+ghost use Rattle.fixed_interval.specs.Sums.{zero_span, both};
+ghost use Rattle.formula_box.specs.Slopes.{quotient_there, joined_slope, power_slope, where_used};
 
 use crate::factor::{falling_factor, rising_factor, whole_number};
 use fixed_interval::{Span, Steps, add, div, mul, neg, point, sub, zero};

@@ -12,7 +12,8 @@ use Rattle.formula_ast.specs.Trees.{Tree, HasExponents, uses}
 use Rattle.formula_box.specs.Values.{Answer, span_of}
 use Rattle.formula_box.specs.declared.fault.EvalFault.TheVariants.{Arith, NoValue}
 use Rattle.formula_box.specs.Exact.{expression_of, AreEnclosed}
-use Rattle.formula_box.proofs.Enclosing.{point_encloses, formula_encloses}
+use Rattle.fixed_interval.proofs.Enclosures.{point_encloses}
+use Rattle.formula_box.proofs.Enclosing.{formula_encloses}
 use Rattle.value_cache.specs.Quantities.{Body, Input, Function, Quantity, body_of}
 use Rattle.value_cache.specs.Evaluations.{Found, Named, span_in, is_fault, first_fault, settled, evaluation_of_formula, evaluation_of_body, evaluation_through, evaluation_of}
 use Rattle.value_cache.specs.Model.{model_body, model_of, HasValueIn, BodyHasExponents, AllHaveExponents}
