@@ -4,7 +4,7 @@ use Rattle.std.proofs.Common.{sym, ◌∙◌, ap, ap₂, subst}
 use Rattle.std.proofs.lemmas.Bool.{true≢false}
 use Rattle.exact_fraction.specs.Number.{ℚ, of_ℤ, ◌+ℚ◌}
 use Rattle.exact_fraction.proofs.Ring.{Whole, ◌:+◌, x0, ring}
-use Rattle.exact_law.specs.Model.{Expression, Num, Key, Neg, Add, Sub, Mul, Div, Pow, value, slope, is_defined, replaced, Body, Input, Formula, Row, IsSameTest, body_of, estimate, replaced_body, expanded, unit, exact_value, exact_slope, has_value, body_partial, partial, sweep, IsBackward, keys, absent, once, uses_only, body_uses_only, is_order, AreOf}
+use Rattle.exact_law.specs.Model.{Expression, Num, Key, Neg, Add, Sub, Mul, Div, Pow, value, slope, is_defined, replaced, Body, Input, Formula, Row, IsSameTest, body_of, estimate, is_input, replaced_body, expanded, unit, exact_value, exact_slope, has_value, body_partial, partial, sweep, IsBackward, keys, absent, once, uses_only, body_uses_only, is_order, AreOf}
 use Rattle.exact_law.proofs.Tests.{and_left, and_right}
 use Rattle.exact_law.proofs.Chain.{value-replaced, slope-replaced, is_defined-replaced, along, along-zero, along-once, along-absent, slope-along, AllRows, AllRows-map, IsForward, forward_backward}
 use Rattle.exact_law.proofs.Rows.{unused_key, brought-absent, sweep-brought, order-absent, order-uses, order-rest, of_key, IsExpanded, IsExpanded-rows}
@@ -45,8 +45,8 @@ pub has_value_by_rows : {K : Type 0} (same : K → K → Bool) → IsSameTest sa
     → has_value same model m ≡ is_defined (exact_value same model) (has_value same model) f
 unfolding exact_value has_value
 has_value_by_rows same law model rows a o m f m1 h =
-    ap (is_defined (estimate same model) (λ n. true)) (formula-expanded same law model rows a o m f m1 h)
-    ∙ is_defined-replaced (estimate same model) (λ n. true) (expanded same model) f
+    ap (is_defined (estimate same model) (is_input same model)) (formula-expanded same law model rows a o m f m1 h)
+    ∙ is_defined-replaced (estimate same model) (is_input same model) (expanded same model) f
 
 pub slope_by_rows : {K : Type 0} (same : K → K → Bool) → IsSameTest same → (model rows : List (Row K))
     → AreOf same model rows → is_order same rows ≡ true → (m : K) (f : Expression K)

@@ -2,6 +2,7 @@ pub mod Tests
 pub mod Chain
 pub mod Rows
 pub mod ChainRule
+pub mod NoValues
 pub mod Split
 pub mod Schwarz
 pub mod Welch

@@ -4,7 +4,7 @@ use Rattle.std.proofs.Common.{◌∙◌, ap, ap₂}
 use Rattle.std.proofs.Math.Path.{fun_ext}
 use Rattle.exact_fraction.specs.Number.{ℚ, of_ℤ, ◌+ℚ◌, ◌*ℚ◌}
 use Rattle.exact_fraction.specs.Sums.{total}
-use Rattle.exact_law.specs.Model.{Expression, Num, Key, Neg, Add, Sub, Mul, Div, Pow, value, slope, is_defined, replaced, Body, Input, Formula, Row, body_of, estimate_in, estimate, replaced_body, expansion, expanded, unit, exact_value, exact_slope, has_value}
+use Rattle.exact_law.specs.Model.{Expression, Num, Key, Neg, Add, Sub, Mul, Div, Pow, value, slope, is_defined, replaced, Body, Input, Formula, Row, body_of, estimate_in, estimate, is_input_body, is_input, replaced_body, expansion, expanded, unit, exact_value, exact_slope, has_value}
 use Rattle.exact_law.specs.Law.{Column, Group, Own, Correlated, Joint, joint, cell, covariance_in, covariance, law_of, inputs_with, inputs_of, law}
 use Rattle.exact_law.specs.Renaming.{KeepsApart, renamed, renamed_body, renamed_rows, renamed_columns, renamed_group, renamed_groups}
 use Rattle.exact_fraction.proofs.SumLaws.{total-same}
@@ -122,6 +122,18 @@ unfolding estimate
 estimate-renamed same same' rename a rows n =
     ap estimate_in (body_of-renamed same same' rename a rows n) ∙ estimate_in-renamed rename (body_of same rows n)
 
+is_input_body-renamed : {K L : Type 0} (rename : K → L) (b : Option (Body K)) → is_input_body (renamed_option rename b) ≡ is_input_body b
+unfolding is_input_body renamed_body
+is_input_body-renamed rename None = refl
+is_input_body-renamed rename (Some (Input q)) = refl
+is_input_body-renamed rename (Some (Formula f)) = refl
+
+is_input-renamed : {K L : Type 0} (same : K → K → Bool) (same' : L → L → Bool) (rename : K → L) → KeepsApart same same' rename
+    → (rows : List (Row K)) (n : K) → is_input same' (renamed_rows rename rows) (rename n) ≡ is_input same rows n
+unfolding is_input
+is_input-renamed same same' rename a rows n =
+    ap is_input_body (body_of-renamed same same' rename a rows n) ∙ is_input_body-renamed rename (body_of same rows n)
+
 -- ---- values, sensitivities and the law
 pub exact_value-renamed : {K L : Type 0} (same : K → K → Bool) (same' : L → L → Bool) (rename : K → L) → KeepsApart same same' rename
     → (rows : List (Row K)) (y : K) → exact_value same' (renamed_rows rename rows) (rename y) ≡ exact_value same rows y
@@ -135,9 +147,9 @@ pub has_value-renamed : {K L : Type 0} (same : K → K → Bool) (same' : L → 
     → (rows : List (Row K)) (y : K) → has_value same' (renamed_rows rename rows) (rename y) ≡ has_value same rows y
 unfolding has_value renamed value is_defined
 has_value-renamed same same' rename a rows y =
-    ap (is_defined (estimate same' (renamed_rows rename rows)) (λ n. true)) (expanded-renamed same same' rename a rows y)
-    ∙ is_defined-replaced (estimate same' (renamed_rows rename rows)) (λ n. true) (λ n. Key (rename n)) (expanded same rows y)
-    ∙ ap (λ v. is_defined v (λ n. true) (expanded same rows y)) (fun_ext (estimate-renamed same same' rename a rows))
+    ap (is_defined (estimate same' (renamed_rows rename rows)) (is_input same' (renamed_rows rename rows))) (expanded-renamed same same' rename a rows y)
+    ∙ is_defined-replaced (estimate same' (renamed_rows rename rows)) (is_input same' (renamed_rows rename rows)) (λ n. Key (rename n)) (expanded same rows y)
+    ∙ ap₂ (λ v k. is_defined v k (expanded same rows y)) (fun_ext (estimate-renamed same same' rename a rows)) (fun_ext (is_input-renamed same same' rename a rows))
 
 pub exact_slope-renamed : {K L : Type 0} (same : K → K → Bool) (same' : L → L → Bool) (rename : K → L) → KeepsApart same same' rename
     → (rows : List (Row K)) (y i : K)

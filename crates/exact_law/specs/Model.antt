@@ -1,7 +1,7 @@
 -- A model of a measurement (JCGM 100:2008, 4.1): quantities by their keys, each an input with its
 -- estimate or a formula over other quantities. The value and the derivatives of a quantity are those
 -- of its expansion, the formula over inputs alone that is had by putting in formula for formula.
-use Rattle.std.specs.Prelude.{◌≡◌, ℕ, zero, suc, Bool, true, false, cond, not, ◌&&◌, Option, Some, None, List, [], ◌∷◌, length, ℤ, pos, negsuc}
+use Rattle.std.specs.Prelude.{◌≡◌, ℕ, zero, suc, Bool, true, false, cond, not, ◌&&◌, ◌||◌, Option, Some, None, List, [], ◌∷◌, length, ℤ, pos, negsuc}
 use Rattle.exact_fraction.specs.Number.{ℚ, of_ℤ, ◌+ℚ◌, ◌*ℚ◌, ◌/ℚ◌, neg_ℚ, is_zero_ℚ, ◌-ℚ◌}
 use Rattle.exact_fraction.specs.Powers.{power, whole_power}
 use Rattle.exact_fraction.specs.Sums.{total}
@@ -63,6 +63,17 @@ is_defined v known (Mul a b) = is_defined v known a && is_defined v known b
 is_defined v known (Div a b) = is_defined v known a && is_defined v known b && not (is_zero_ℚ (value v b))
 is_defined v known (Pow a n) = is_defined v known a && has_power (value v a) n
 
+-- whether the expression uses a key for which p is true
+unfoldable pub uses : {K : Type 0} → (K → Bool) → Expression K → Bool
+uses p (Num q) = false
+uses p (Key n) = p n
+uses p (Neg a) = uses p a
+uses p (Add a b) = uses p a || uses p b
+uses p (Sub a b) = uses p a || uses p b
+uses p (Mul a b) = uses p a || uses p b
+uses p (Div a b) = uses p a || uses p b
+uses p (Pow a n) = uses p a
+
 -- the expression with each key n replaced by s n
 unfoldable pub replaced : {K L : Type 0} → (K → Expression L) → Expression K → Expression L
 replaced s (Num q) = Num q
@@ -104,6 +115,15 @@ estimate_in (Some (Formula f)) = of_ℤ (pos 0)
 unfoldable pub estimate : {K : Type 0} → (K → K → Bool) → List (Row K) → K → ℚ
 estimate same model n = estimate_in (body_of same model n)
 
+unfoldable pub is_input_body : {K : Type 0} → Option (Body K) → Bool
+is_input_body None = false
+is_input_body (Some (Input q)) = true
+is_input_body (Some (Formula f)) = false
+
+-- whether the key is an input of the model
+unfoldable pub is_input : {K : Type 0} → (K → K → Bool) → List (Row K) → K → Bool
+is_input same model n = is_input_body (body_of same model n)
+
 unfoldable pub replaced_body : {K : Type 0} → (K → Expression K) → K → Option (Body K) → Expression K
 replaced_body s n None = Key n
 replaced_body s n (Some (Input q)) = Key n
@@ -130,9 +150,10 @@ exact_value same model y = value (estimate same model) (expanded same model y)
 unfoldable pub exact_slope : {K : Type 0} → (K → K → Bool) → List (Row K) → K → K → ℚ
 exact_slope same model y i = slope (estimate same model) (unit same i) (expanded same model y)
 
--- whether y has a value
+-- whether y has a value: that of its expansion is defined, and each key there is an input. So a key
+-- that is no quantity has none, and one that a cycle of uses leaves in the expansion gives none
 unfoldable pub has_value : {K : Type 0} → (K → K → Bool) → List (Row K) → K → Bool
-has_value same model y = is_defined (estimate same model) (λ n. true) (expanded same model y)
+has_value same model y = is_defined (estimate same model) (is_input same model) (expanded same model y)
 
 -- the value of y where it is defined
 unfoldable pub value_of : {K : Type 0} → (K → K → Bool) → List (Row K) → K → Option ℚ
@@ -141,6 +162,16 @@ value_of same model y = cond (has_value same model y) (Some (exact_value same mo
 -- the sensitivity of y to the input i where it is defined
 unfoldable pub derivative_of : {K : Type 0} → (K → K → Bool) → List (Row K) → K → K → Option ℚ
 derivative_of same model y i = cond (has_value same model y) (Some (exact_slope same model y i)) None
+
+unfoldable pub body_uses : {K : Type 0} → (K → Bool) → Option (Body K) → Bool
+body_uses p None = false
+body_uses p (Some (Input q)) = false
+body_uses p (Some (Formula f)) = uses p f
+
+-- the keys for which p is true use one another in a cycle, or in several: each is a formula that uses
+-- one of them
+pub record IsCyclic {K : Type 0} (same : K → K → Bool) (model : List (Row K)) (p : K → Bool) : Type 0 where
+  pub each_uses_one : (n : K) → p n ≡ true → body_uses p (body_of same model n) ≡ true
 
 -- ---- sensitivities row by row
 unfoldable pub body_partial : {K : Type 0} → (K → K → Bool) → (K → ℚ) → Body K → K → ℚ

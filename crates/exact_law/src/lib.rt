@@ -8,10 +8,10 @@
 //! equality.
 #![tactic(auto)]
 
-ghost use Rattle.std.specs.Prelude.{◌≡◌, ◌↔◌, ◌⊎◌, ℕ, ◌≤◌, ℤ, ◌-ℤ◌, pos, Bool, true, Some, List, nat_eq};
+ghost use Rattle.std.specs.Prelude.{◌≡◌, ◌↔◌, ◌⊎◌, ℕ, ◌≤◌, ℤ, ◌-ℤ◌, pos, Bool, true, false, Some, None, List, nat_eq};
 ghost use Rattle.exact_fraction.specs.Number.{ℚ, of_ℤ, ◌*ℚ◌, inv_ℚ, ◌≤ℚ◌, floor_ℚ, ◌<ℚ◌};
 ghost use Rattle.exact_fraction.specs.Sums.{total};
-ghost use Rattle.exact_law.specs.Model.{Expression, Input, Formula, Row, IsSameTest, body_of, exact_value, exact_slope, has_value, unit, sweep, IsBackward, keys, once, IsOrderOf, IsByRow};
+ghost use Rattle.exact_law.specs.Model.{Expression, Input, Formula, Row, IsSameTest, body_of, exact_value, exact_slope, has_value, unit, sweep, IsBackward, keys, once, IsOrderOf, IsByRow, IsCyclic};
 ghost use Rattle.exact_law.specs.Law.{Group, inputs_of, covariance, law, part_of, IsSound, IsSoundFor, AllGroups};
 ghost use Rattle.exact_law.specs.Degrees.{NoDegrees, InfiniteDegrees, FiniteDegrees, degrees_of, inverse_degrees, share_of, counts, Level, factor};
 ghost use Rattle.exact_law.specs.Rounding.{at_place, IsTwoDigits, IsNearest, IsHundredths};
@@ -26,6 +26,17 @@ pub fn rows_give_the_expansion<K>()
     ensures { (same : K → K → Bool) → IsSameTest same → (model rows : List (Row K)) → IsOrderOf same model rows
         → (m : K) (f : Expression K) → once same m (keys rows) ≡ true → body_of same model m ≡ Some (Formula f)
         → IsByRow same model m f }
+{}
+
+/// An input has a value. A key that is no quantity of the model has none, and none has a formula that
+/// uses a key without a value; so no key has one whose formula uses itself, directly or through others.
+pub fn keys_without_a_value<K>()
+    ensures input { (same : K → K → Bool) (model : List (Row K)) (n : K) (q : ℚ) → body_of same model n ≡ Some (Input q)
+        → has_value same model n ≡ true }
+    ensures no_quantity { (same : K → K → Bool) (model : List (Row K)) (n : K) → body_of same model n ≡ None
+        → has_value same model n ≡ false }
+    ensures in_a_cycle { (same : K → K → Bool) (model : List (Row K)) (p : K → Bool) → IsCyclic same model p
+        → (n : K) → p n ≡ true → has_value same model n ≡ false }
 {}
 
 /// The chain rule through shared rows. In an order of rows of the model that holds `y`, the sweep from

@@ -8,7 +8,7 @@ use Rattle.std.proofs.Math.ListN.{get_or}
 use Rattle.std.specs.Option.{option_map, option_map_or}
 use Rattle.std.specs.Result.{IsErrAnd}
 use Rattle.exact_fraction.specs.Number.{ℚ, of_ℤ, is_zero_ℚ}
-use Rattle.exact_law.specs.Model.{Expression, Num, Key, Neg, Add, Sub, Mul, Div, Pow, Input, Formula, Row, is_defined, has_power, value, slope, replaced, replaced_body, body_of, estimate_in, estimate, expansion}
+use Rattle.exact_law.specs.Model.{Expression, Num, Key, Neg, Add, Sub, Mul, Div, Pow, Input, Formula, Row, is_defined, has_power, value, slope, replaced, replaced_body, body_of, estimate_in, estimate, is_input_body, is_input, expansion}
 use Rattle.plain_law.specs.declared.jet.Jet.{Jet}
 use Rattle.plain_law.specs.declared.model.Failure.{Failure}
 use Rattle.plain_law.specs.declared.model.Failure.TheVariants.{Undefined, TooWide}
@@ -90,40 +90,49 @@ pub estimate-input : (model : List (Row ℕ)) (key : ℕ) (q : ℚ) → body_of 
 unfolding estimate estimate_in
 estimate-input model key q e = sym (ap estimate_in e)
 
-pub estimate-formula : (model : List (Row ℕ)) (key : ℕ) (f : Expression ℕ) → body_of nat_eq model key ≡ Some (Formula f) → of_ℤ (pos 0) ≡ estimate nat_eq model key
-unfolding estimate estimate_in
-estimate-formula model key f e = sym (ap estimate_in e)
+pub is_input-input : (model : List (Row ℕ)) (key : ℕ) (q : ℚ) → body_of nat_eq model key ≡ Some (Input q) → is_input nat_eq model key ≡ true
+unfolding is_input is_input_body
+is_input-input model key q e = ap is_input_body e
 
-pub estimate-missing : (model : List (Row ℕ)) (key : ℕ) → body_of nat_eq model key ≡ None → of_ℤ (pos 0) ≡ estimate nat_eq model key
-unfolding estimate estimate_in
-estimate-missing model key e = sym (ap estimate_in e)
+pub is_input-formula : (model : List (Row ℕ)) (key : ℕ) (f : Expression ℕ) → body_of nat_eq model key ≡ Some (Formula f) → is_input nat_eq model key ≡ false
+unfolding is_input is_input_body
+is_input-formula model key f e = ap is_input_body e
+
+pub is_input-missing : (model : List (Row ℕ)) (key : ℕ) → body_of nat_eq model key ≡ None → is_input nat_eq model key ≡ false
+unfolding is_input is_input_body
+is_input-missing model key e = ap is_input_body e
 
 -- the jet of a key, of which the expression is that of an expansion
-pub key_jet : (v d : ℕ → ℚ) (f : Expression ℕ) (key : ℕ) (j : Jet) → f ≡ Key key → number j.value ≡ v key → number j.slope ≡ d key → IsJetOf v d f j
+pub key_jet : (v d : ℕ → ℚ) (known : ℕ → Bool) (f : Expression ℕ) (key : ℕ) (j : Jet) → f ≡ Key key → known key ≡ true → number j.value ≡ v key → number j.slope ≡ d key → IsJetOf v d known f j
 unfolding is_defined value slope
-key_jet v d f key j e h k =
-    subst (λ g. IsJetOf v d g j) (sym e) (record { defined = refl; value_is = h; slope_is = k })
+key_jet v d known f key j e g h k =
+    subst (λ g. IsJetOf v d known g j) (sym e) (record { defined = g; value_is = h; slope_is = k })
 
-pub number_jet : (v d : ℕ → ℚ) (f : Expression ℕ) (q : ℚ) (j : Jet) → f ≡ Num q → number j.value ≡ q → number j.slope ≡ of_ℤ (pos 0) → IsJetOf v d f j
+-- a key without a value, of which the expression is that of an expansion
+pub key_undefined : (v : ℕ → ℚ) (known : ℕ → Bool) (f : Expression ℕ) (key : ℕ) → f ≡ Key key → known key ≡ false → is_defined v known f ≡ false
+unfolding is_defined
+key_undefined v known f key e h = ap (is_defined v known) e ∙ h
+
+pub number_jet : (v d : ℕ → ℚ) (known : ℕ → Bool) (f : Expression ℕ) (q : ℚ) (j : Jet) → f ≡ Num q → number j.value ≡ q → number j.slope ≡ of_ℤ (pos 0) → IsJetOf v d known f j
 unfolding is_defined value slope
-number_jet v d f q j e h k =
-    subst (λ g. IsJetOf v d g j) (sym e) (record { defined = refl; value_is = h; slope_is = k })
+number_jet v d known f q j e h k =
+    subst (λ g. IsJetOf v d known g j) (sym e) (record { defined = refl; value_is = h; slope_is = k })
 
-pub along : (v d : ℕ → ℚ) (f g : Expression ℕ) (r : Result Jet Failure) → f ≡ g → IsJetOrFailure v d g r → IsJetOrFailure v d f r
-along v d f g r e h = subst (λ t. IsJetOrFailure v d t r) (sym e) h
+pub along : (v d : ℕ → ℚ) (known : ℕ → Bool) (f g : Expression ℕ) (r : Result Jet Failure) → f ≡ g → IsJetOrFailure v d known g r → IsJetOrFailure v d known f r
+along v d known f g r e h = subst (λ t. IsJetOrFailure v d known t r) (sym e) h
 
-pub along_jet : (v d : ℕ → ℚ) (f g : Expression ℕ) (j : Jet) → f ≡ g → IsJetOf v d g j → IsJetOf v d f j
-along_jet v d f g j e h = subst (λ t. IsJetOf v d t j) (sym e) h
+pub along_jet : (v d : ℕ → ℚ) (known : ℕ → Bool) (f g : Expression ℕ) (j : Jet) → f ≡ g → IsJetOf v d known g j → IsJetOf v d known f j
+along_jet v d known f g j e h = subst (λ t. IsJetOf v d known t j) (sym e) h
 
 -- ---- failures
-pub failed : (v d : ℕ → ℚ) (f g h : Expression ℕ) (e : Failure) (r : Result Jet Failure) → IsErrAnd r (λ x. x ≡ e) → g ≡ h
-    → (is_defined v (λ n. true) f ≡ false → is_defined v (λ n. true) h ≡ false) → IsJetOrFailure v d f (Err e) → IsJetOrFailure v d g r
-failed v d f g h e (Ok j) i k l m = absurd i
-failed v d f g h e (Err x) i k l m = along v d g h (Err x) k (subst (λ t. IsJetOrFailure v d h (Err t)) (sym i) (spread v d f h e l m)) where
-  spread : (v d : ℕ → ℚ) (f h : Expression ℕ) (e : Failure) → (is_defined v (λ n. true) f ≡ false → is_defined v (λ n. true) h ≡ false)
-      → IsJetOrFailure v d f (Err e) → IsJetOrFailure v d h (Err e)
-  spread v d f h Undefined l m = l m
-  spread v d f h TooWide l m = tt
+pub failed : (v d : ℕ → ℚ) (known : ℕ → Bool) (f g h : Expression ℕ) (e : Failure) (r : Result Jet Failure) → IsErrAnd r (λ x. x ≡ e) → g ≡ h
+    → (is_defined v known f ≡ false → is_defined v known h ≡ false) → IsJetOrFailure v d known f (Err e) → IsJetOrFailure v d known g r
+failed v d known f g h e (Ok j) i k l m = absurd i
+failed v d known f g h e (Err x) i k l m = along v d known g h (Err x) k (subst (λ t. IsJetOrFailure v d known h (Err t)) (sym i) (spread v d known f h e l m)) where
+  spread : (v d : ℕ → ℚ) (known : ℕ → Bool) (f h : Expression ℕ) (e : Failure) → (is_defined v known f ≡ false → is_defined v known h ≡ false)
+      → IsJetOrFailure v d known f (Err e) → IsJetOrFailure v d known h (Err e)
+  spread v d known f h Undefined l m = l m
+  spread v d known f h TooWide l m = tt
 
 pub left_false : (a b : Bool) → a ≡ false → (a && b) ≡ false
 left_false true b h = absurd (true≢false h)
@@ -142,45 +151,45 @@ middle_false a true c h = absurd (true≢false h)
 middle_false true false c h = refl
 middle_false false false c h = refl
 
-pub add_left : (v : ℕ → ℚ) (f g : Expression ℕ) → is_defined v (λ n. true) f ≡ false → is_defined v (λ n. true) (Add f g) ≡ false
+pub add_left : (v : ℕ → ℚ) (known : ℕ → Bool) (f g : Expression ℕ) → is_defined v known f ≡ false → is_defined v known (Add f g) ≡ false
 unfolding is_defined
-add_left v f g h = left_false _ (is_defined v (λ n. true) g) h
+add_left v known f g h = left_false _ (is_defined v known g) h
 
-pub add_right : (v : ℕ → ℚ) (f g : Expression ℕ) → is_defined v (λ n. true) g ≡ false → is_defined v (λ n. true) (Add f g) ≡ false
+pub add_right : (v : ℕ → ℚ) (known : ℕ → Bool) (f g : Expression ℕ) → is_defined v known g ≡ false → is_defined v known (Add f g) ≡ false
 unfolding is_defined
-add_right v f g h = right_false (is_defined v (λ n. true) f) _ h
+add_right v known f g h = right_false (is_defined v known f) _ h
 
-pub sub_left : (v : ℕ → ℚ) (f g : Expression ℕ) → is_defined v (λ n. true) f ≡ false → is_defined v (λ n. true) (Sub f g) ≡ false
+pub sub_left : (v : ℕ → ℚ) (known : ℕ → Bool) (f g : Expression ℕ) → is_defined v known f ≡ false → is_defined v known (Sub f g) ≡ false
 unfolding is_defined
-sub_left v f g h = left_false _ (is_defined v (λ n. true) g) h
+sub_left v known f g h = left_false _ (is_defined v known g) h
 
-pub sub_right : (v : ℕ → ℚ) (f g : Expression ℕ) → is_defined v (λ n. true) g ≡ false → is_defined v (λ n. true) (Sub f g) ≡ false
+pub sub_right : (v : ℕ → ℚ) (known : ℕ → Bool) (f g : Expression ℕ) → is_defined v known g ≡ false → is_defined v known (Sub f g) ≡ false
 unfolding is_defined
-sub_right v f g h = right_false (is_defined v (λ n. true) f) _ h
+sub_right v known f g h = right_false (is_defined v known f) _ h
 
-pub mul_left : (v : ℕ → ℚ) (f g : Expression ℕ) → is_defined v (λ n. true) f ≡ false → is_defined v (λ n. true) (Mul f g) ≡ false
+pub mul_left : (v : ℕ → ℚ) (known : ℕ → Bool) (f g : Expression ℕ) → is_defined v known f ≡ false → is_defined v known (Mul f g) ≡ false
 unfolding is_defined
-mul_left v f g h = left_false _ (is_defined v (λ n. true) g) h
+mul_left v known f g h = left_false _ (is_defined v known g) h
 
-pub mul_right : (v : ℕ → ℚ) (f g : Expression ℕ) → is_defined v (λ n. true) g ≡ false → is_defined v (λ n. true) (Mul f g) ≡ false
+pub mul_right : (v : ℕ → ℚ) (known : ℕ → Bool) (f g : Expression ℕ) → is_defined v known g ≡ false → is_defined v known (Mul f g) ≡ false
 unfolding is_defined
-mul_right v f g h = right_false (is_defined v (λ n. true) f) _ h
+mul_right v known f g h = right_false (is_defined v known f) _ h
 
-pub div_left : (v : ℕ → ℚ) (f g : Expression ℕ) → is_defined v (λ n. true) f ≡ false → is_defined v (λ n. true) (Div f g) ≡ false
+pub div_left : (v : ℕ → ℚ) (known : ℕ → Bool) (f g : Expression ℕ) → is_defined v known f ≡ false → is_defined v known (Div f g) ≡ false
 unfolding is_defined
-div_left v f g h = first_false (is_defined v (λ n. true) f) (is_defined v (λ n. true) g) (not (is_zero_ℚ (value v g))) h
+div_left v known f g h = first_false (is_defined v known f) (is_defined v known g) (not (is_zero_ℚ (value v g))) h
 
-pub div_right : (v : ℕ → ℚ) (f g : Expression ℕ) → is_defined v (λ n. true) g ≡ false → is_defined v (λ n. true) (Div f g) ≡ false
+pub div_right : (v : ℕ → ℚ) (known : ℕ → Bool) (f g : Expression ℕ) → is_defined v known g ≡ false → is_defined v known (Div f g) ≡ false
 unfolding is_defined
-div_right v f g h = middle_false (is_defined v (λ n. true) f) (is_defined v (λ n. true) g) (not (is_zero_ℚ (value v g))) h
+div_right v known f g h = middle_false (is_defined v known f) (is_defined v known g) (not (is_zero_ℚ (value v g))) h
 
-pub neg_part : (v : ℕ → ℚ) (f : Expression ℕ) → is_defined v (λ n. true) f ≡ false → is_defined v (λ n. true) (Neg f) ≡ false
+pub neg_part : (v : ℕ → ℚ) (known : ℕ → Bool) (f : Expression ℕ) → is_defined v known f ≡ false → is_defined v known (Neg f) ≡ false
 unfolding is_defined
-neg_part v f h = h
+neg_part v known f h = h
 
-pub pow_part : (v : ℕ → ℚ) (f : Expression ℕ) (n : ℤ) → is_defined v (λ n. true) f ≡ false → is_defined v (λ n. true) (Pow f n) ≡ false
+pub pow_part : (v : ℕ → ℚ) (known : ℕ → Bool) (f : Expression ℕ) (n : ℤ) → is_defined v known f ≡ false → is_defined v known (Pow f n) ≡ false
 unfolding is_defined
-pow_part v f n h = left_false (is_defined v (λ n. true) f) (has_power (value v f) n) h
+pow_part v known f n h = left_false (is_defined v known f) (has_power (value v f) n) h
 
 -- ---- the expansion of what is written
 pub replaced_add : (s : ℕ → Expression ℕ) (f g h : Expression ℕ) → f ≡ Add g h → replaced s f ≡ Add (replaced s g) (replaced s h)

@@ -32,51 +32,51 @@ unfolding unit
 unit_other x n m h e = e ∙ ap (λ b. cond b (of_ℤ (pos 1)) (of_ℤ (pos 0))) (sym h)
 
 -- ---- the operations
-pub negative_jet : (v d : ℕ → ℚ) (f : Expression ℕ) (a j : Jet) → IsJetOf v d f a
-    → number j.value ≡ neg_ℚ (number a.value) → number j.slope ≡ neg_ℚ (number a.slope) → IsJetOf v d (Neg f) j
+pub negative_jet : (v d : ℕ → ℚ) (known : ℕ → Bool) (f : Expression ℕ) (a j : Jet) → IsJetOf v d known f a
+    → number j.value ≡ neg_ℚ (number a.value) → number j.slope ≡ neg_ℚ (number a.slope) → IsJetOf v d known (Neg f) j
 unfolding is_defined value slope
-negative_jet v d f a j h e k = record {
+negative_jet v d known f a j h e k = record {
   defined = h.defined;
   value_is = e ∙ ap neg_ℚ h.value_is;
   slope_is = k ∙ ap neg_ℚ h.slope_is;
 }
 
-pub sum_jet : (v d : ℕ → ℚ) (f g : Expression ℕ) (a b j : Jet) → IsJetOf v d f a → IsJetOf v d g b
+pub sum_jet : (v d : ℕ → ℚ) (known : ℕ → Bool) (f g : Expression ℕ) (a b j : Jet) → IsJetOf v d known f a → IsJetOf v d known g b
     → number j.value ≡ number a.value +ℚ number b.value → number j.slope ≡ number a.slope +ℚ number b.slope
-    → IsJetOf v d (Add f g) j
+    → IsJetOf v d known (Add f g) j
 unfolding is_defined value slope
-sum_jet v d f g a b j h i e k = record {
+sum_jet v d known f g a b j h i e k = record {
   defined = ap₂ (λ x y. x && y) h.defined i.defined;
   value_is = e ∙ ap₂ ◌+ℚ◌ h.value_is i.value_is;
   slope_is = k ∙ ap₂ ◌+ℚ◌ h.slope_is i.slope_is;
 }
 
-pub difference_jet : (v d : ℕ → ℚ) (f g : Expression ℕ) (a b j : Jet) → IsJetOf v d f a → IsJetOf v d g b
+pub difference_jet : (v d : ℕ → ℚ) (known : ℕ → Bool) (f g : Expression ℕ) (a b j : Jet) → IsJetOf v d known f a → IsJetOf v d known g b
     → number j.value ≡ number a.value -ℚ number b.value → number j.slope ≡ number a.slope -ℚ number b.slope
-    → IsJetOf v d (Sub f g) j
+    → IsJetOf v d known (Sub f g) j
 unfolding is_defined value slope
-difference_jet v d f g a b j h i e k = record {
+difference_jet v d known f g a b j h i e k = record {
   defined = ap₂ (λ x y. x && y) h.defined i.defined;
   value_is = e ∙ ap₂ (λ x y. x -ℚ y) h.value_is i.value_is;
   slope_is = k ∙ ap₂ (λ x y. x -ℚ y) h.slope_is i.slope_is;
 }
 
-pub product_jet : (v d : ℕ → ℚ) (f g : Expression ℕ) (a b j : Jet) (l r : Exact) → IsJetOf v d f a → IsJetOf v d g b
+pub product_jet : (v d : ℕ → ℚ) (known : ℕ → Bool) (f g : Expression ℕ) (a b j : Jet) (l r : Exact) → IsJetOf v d known f a → IsJetOf v d known g b
     → number j.value ≡ number a.value *ℚ number b.value → number l ≡ number a.slope *ℚ number b.value
-    → number r ≡ number a.value *ℚ number b.slope → number j.slope ≡ number l +ℚ number r → IsJetOf v d (Mul f g) j
+    → number r ≡ number a.value *ℚ number b.slope → number j.slope ≡ number l +ℚ number r → IsJetOf v d known (Mul f g) j
 unfolding is_defined value slope
-product_jet v d f g a b j l r h i e el er k = record {
+product_jet v d known f g a b j l r h i e el er k = record {
   defined = ap₂ (λ x y. x && y) h.defined i.defined;
   value_is = e ∙ ap₂ ◌*ℚ◌ h.value_is i.value_is;
   slope_is = k ∙ ap₂ ◌+ℚ◌ (el ∙ ap₂ ◌*ℚ◌ h.slope_is i.value_is) (er ∙ ap₂ ◌*ℚ◌ h.value_is i.slope_is);
 }
 
-pub quotient_jet : (v d : ℕ → ℚ) (f g : Expression ℕ) (a b j : Jet) (s t : Exact) → IsJetOf v d f a → IsJetOf v d g b
+pub quotient_jet : (v d : ℕ → ℚ) (known : ℕ → Bool) (f g : Expression ℕ) (a b j : Jet) (s t : Exact) → IsJetOf v d known f a → IsJetOf v d known g b
     → is_zero_ℚ (number b.value) ≡ false → number j.value ≡ number a.value /ℚ number b.value
     → number s ≡ number j.value *ℚ number b.slope → number t ≡ number a.slope -ℚ number s
-    → number j.slope ≡ number t /ℚ number b.value → IsJetOf v d (Div f g) j
+    → number j.slope ≡ number t /ℚ number b.value → IsJetOf v d known (Div f g) j
 unfolding is_defined value slope
-quotient_jet v d f g a b j s t h i z e es et k =
+quotient_jet v d known f g a b j s t h i z e es et k =
     let value_is = e ∙ ap₂ (λ x y. x /ℚ y) h.value_is i.value_is in
     record {
       defined = all_three _ _ _ h.defined i.defined (ap not (ap is_zero_ℚ (sym i.value_is) ∙ z));
@@ -84,17 +84,17 @@ quotient_jet v d f g a b j s t h i z e es et k =
       slope_is = k ∙ ap₂ (λ x y. x /ℚ y) (et ∙ ap₂ (λ x y. x -ℚ y) h.slope_is (es ∙ ap₂ ◌*ℚ◌ value_is i.slope_is)) i.value_is;
     }
 
-pub quotient_undefined : (v d : ℕ → ℚ) (f g : Expression ℕ) (b : Jet) → IsJetOf v d g b
-    → is_zero_ℚ (number b.value) ≡ true → is_defined v (λ n. true) (Div f g) ≡ false
+pub quotient_undefined : (v d : ℕ → ℚ) (known : ℕ → Bool) (f g : Expression ℕ) (b : Jet) → IsJetOf v d known g b
+    → is_zero_ℚ (number b.value) ≡ true → is_defined v known (Div f g) ≡ false
 unfolding is_defined
-quotient_undefined v d f g b i z =
-    last_false (is_defined v (λ n. true) f) (is_defined v (λ n. true) g) _ (ap not (ap is_zero_ℚ (sym i.value_is) ∙ z))
+quotient_undefined v d known f g b i z =
+    last_false (is_defined v known f) (is_defined v known g) _ (ap not (ap is_zero_ℚ (sym i.value_is) ∙ z))
 
-pub power_jet : (v d : ℕ → ℚ) (f : Expression ℕ) (n m k : ℤ) (a j : Jet) (s : Exact) → m ≡ n → k ≡ n → IsJetOf v d f a
+pub power_jet : (v d : ℕ → ℚ) (known : ℕ → Bool) (f : Expression ℕ) (n m k : ℤ) (a j : Jet) (s : Exact) → m ≡ n → k ≡ n → IsJetOf v d known f a
     → has_power (number a.value) m ≡ true → number j.value ≡ whole_power (number a.value) m
-    → number s ≡ power_slope (number a.value) k → number j.slope ≡ number s *ℚ number a.slope → IsJetOf v d (Pow f n) j
+    → number s ≡ power_slope (number a.value) k → number j.slope ≡ number s *ℚ number a.slope → IsJetOf v d known (Pow f n) j
 unfolding is_defined value slope
-power_jet v d f n m k a j s mn kn h p e es g = record {
+power_jet v d known f n m k a j s mn kn h p e es g = record {
   defined = ap₂ (λ x y. x && y) h.defined (ap (λ x. has_power x n) (sym h.value_is) ∙ ap (has_power (number a.value)) (sym mn) ∙ p);
   value_is = e ∙ ap (whole_power (number a.value)) mn ∙ ap (λ x. whole_power x n) h.value_is;
   slope_is = g ∙ ap₂ ◌*ℚ◌ (es ∙ ap (power_slope (number a.value)) kn ∙ ap (λ x. power_slope x n) h.value_is) h.slope_is;
@@ -105,11 +105,11 @@ unfolding has_power
 no_power x (pos n) h z = absurd (omega (arith, ints))
 no_power x (negsuc n) h z = ap not z
 
-pub power_undefined : (v d : ℕ → ℚ) (f : Expression ℕ) (n : ℤ) (a : Jet) → IsJetOf v d f a → n <ℤ pos 0
-    → is_zero_ℚ (number a.value) ≡ true → is_defined v (λ n. true) (Pow f n) ≡ false
+pub power_undefined : (v d : ℕ → ℚ) (known : ℕ → Bool) (f : Expression ℕ) (n : ℤ) (a : Jet) → IsJetOf v d known f a → n <ℤ pos 0
+    → is_zero_ℚ (number a.value) ≡ true → is_defined v known (Pow f n) ≡ false
 unfolding is_defined
-power_undefined v d f n a h l z =
-    right_false (is_defined v (λ n. true) f) _ (ap (λ x. has_power x n) (sym h.value_is) ∙ no_power (number a.value) n l z)
+power_undefined v d known f n a h l z =
+    right_false (is_defined v known f) _ (ap (λ x. has_power x n) (sym h.value_is) ∙ no_power (number a.value) n l z)
 
 -- ---- the derivative of a power
 pub slope_still : (x y : ℚ) (n w : ℤ) → w ≡ n → y ≡ of_ℤ w → n ≡ pos 0 → y ≡ power_slope x n

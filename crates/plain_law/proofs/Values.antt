@@ -5,7 +5,7 @@ use Rattle.std.proofs.lemmas.Bool.{true≢false}
 use Rattle.std.specs.Option.{is_some}
 use Rattle.std.specs.Result.{IsErrAnd}
 use Rattle.exact_fraction.specs.Number.{ℚ}
-use Rattle.exact_law.specs.Model.{is_defined, value, slope, expansion, expanded, estimate, unit, exact_value, exact_slope, has_value, value_of, derivative_of}
+use Rattle.exact_law.specs.Model.{is_defined, value, slope, expansion, expanded, estimate, is_input, unit, exact_value, exact_slope, has_value, value_of, derivative_of}
 use Rattle.plain_law.specs.declared.fraction.Exact.{Exact}
 use Rattle.plain_law.specs.declared.jet.Jet.{Jet}
 use Rattle.plain_law.specs.declared.model.Failure.{Failure}
@@ -26,30 +26,30 @@ unfolding expanded
 expanded-rows bs y = ap (λ n. expansion nat_eq (rows bs) n y) (length-rows_from 0 bs)
 
 -- ---- where the expansion is defined
-pub has_value-jet : (bs : List WrittenBody) (y : ℕ) (d : ℕ → ℚ) (j : Jet) → IsJetOf (estimate nat_eq (rows bs)) d (expansion nat_eq (rows bs) (length bs) y) j
+pub has_value-jet : (bs : List WrittenBody) (y : ℕ) (d : ℕ → ℚ) (j : Jet) → IsJetOf (estimate nat_eq (rows bs)) d (is_input nat_eq (rows bs)) (expansion nat_eq (rows bs) (length bs) y) j
     → has_value nat_eq (rows bs) y ≡ true
 unfolding has_value
-has_value-jet bs y d j h = ap (is_defined (estimate nat_eq (rows bs)) (λ n. true)) (expanded-rows bs y) ∙ h.defined
+has_value-jet bs y d j h = ap (is_defined (estimate nat_eq (rows bs)) (is_input nat_eq (rows bs))) (expanded-rows bs y) ∙ h.defined
 
-pub exact_value-jet : (bs : List WrittenBody) (y : ℕ) (d : ℕ → ℚ) (j : Jet) → IsJetOf (estimate nat_eq (rows bs)) d (expansion nat_eq (rows bs) (length bs) y) j
+pub exact_value-jet : (bs : List WrittenBody) (y : ℕ) (d : ℕ → ℚ) (j : Jet) → IsJetOf (estimate nat_eq (rows bs)) d (is_input nat_eq (rows bs)) (expansion nat_eq (rows bs) (length bs) y) j
     → exact_value nat_eq (rows bs) y ≡ number j.value
 unfolding exact_value
 exact_value-jet bs y d j h = ap (value (estimate nat_eq (rows bs))) (expanded-rows bs y) ∙ sym h.value_is
 
 pub exact_slope-jet : (bs : List WrittenBody) (y i : ℕ) (j : Jet)
-    → IsJetOf (estimate nat_eq (rows bs)) (unit nat_eq i) (expansion nat_eq (rows bs) (length bs) y) j
+    → IsJetOf (estimate nat_eq (rows bs)) (unit nat_eq i) (is_input nat_eq (rows bs)) (expansion nat_eq (rows bs) (length bs) y) j
     → exact_slope nat_eq (rows bs) y i ≡ number j.slope
 unfolding exact_slope
 exact_slope-jet bs y i j h = ap (slope (estimate nat_eq (rows bs)) (unit nat_eq i)) (expanded-rows bs y) ∙ sym h.slope_is
 
-pub value_of-jet : (bs : List WrittenBody) (y : ℕ) (d : ℕ → ℚ) (j : Jet) → IsJetOf (estimate nat_eq (rows bs)) d (expansion nat_eq (rows bs) (length bs) y) j
+pub value_of-jet : (bs : List WrittenBody) (y : ℕ) (d : ℕ → ℚ) (j : Jet) → IsJetOf (estimate nat_eq (rows bs)) d (is_input nat_eq (rows bs)) (expansion nat_eq (rows bs) (length bs) y) j
     → value_of nat_eq (rows bs) y ≡ Some (number j.value)
 unfolding value_of
 value_of-jet bs y d j h =
     ap (λ b. cond b (Some (exact_value nat_eq (rows bs) y)) None) (has_value-jet bs y d j h) ∙ ap Some (exact_value-jet bs y d j h)
 
 pub derivative_of-jet : (bs : List WrittenBody) (y i : ℕ) (j : Jet)
-    → IsJetOf (estimate nat_eq (rows bs)) (unit nat_eq i) (expansion nat_eq (rows bs) (length bs) y) j
+    → IsJetOf (estimate nat_eq (rows bs)) (unit nat_eq i) (is_input nat_eq (rows bs)) (expansion nat_eq (rows bs) (length bs) y) j
     → derivative_of nat_eq (rows bs) y i ≡ Some (number j.slope)
 unfolding derivative_of
 derivative_of-jet bs y i j h =
@@ -57,12 +57,12 @@ derivative_of-jet bs y i j h =
 
 -- ---- where it is not, or does not fit
 pub has_value-undefined : (bs : List WrittenBody) (y : ℕ) (d : ℕ → ℚ)
-    → IsJetOrFailure (estimate nat_eq (rows bs)) d (expansion nat_eq (rows bs) (length bs) y) (Err Undefined) → has_value nat_eq (rows bs) y ≡ false
+    → IsJetOrFailure (estimate nat_eq (rows bs)) d (is_input nat_eq (rows bs)) (expansion nat_eq (rows bs) (length bs) y) (Err Undefined) → has_value nat_eq (rows bs) y ≡ false
 unfolding has_value
-has_value-undefined bs y d h = ap (is_defined (estimate nat_eq (rows bs)) (λ n. true)) (expanded-rows bs y) ∙ h
+has_value-undefined bs y d h = ap (is_defined (estimate nat_eq (rows bs)) (is_input nat_eq (rows bs))) (expanded-rows bs y) ∙ h
 
 pub value_of-failure : (bs : List WrittenBody) (y : ℕ) (d : ℕ → ℚ) (e : Failure) (r : Result Exact Failure) → IsErrAnd r (λ x. x ≡ e)
-    → IsJetOrFailure (estimate nat_eq (rows bs)) d (expansion nat_eq (rows bs) (length bs) y) (Err e) → IsAnswer r (value_of nat_eq (rows bs) y)
+    → IsJetOrFailure (estimate nat_eq (rows bs)) d (is_input nat_eq (rows bs)) (expansion nat_eq (rows bs) (length bs) y) (Err e) → IsAnswer r (value_of nat_eq (rows bs) y)
 unfolding value_of
 value_of-failure bs y d e (Ok q) i h = absurd i
 value_of-failure bs y d Undefined (Err x) i h =
@@ -71,7 +71,7 @@ value_of-failure bs y d Undefined (Err x) i h =
 value_of-failure bs y d TooWide (Err x) i h = subst (λ t. IsAnswer (Err t) (value_of nat_eq (rows bs) y)) (sym i) tt
 
 pub derivative_of-failure : (bs : List WrittenBody) (y i : ℕ) (e : Failure) (r : Result Exact Failure) → IsErrAnd r (λ x. x ≡ e)
-    → IsJetOrFailure (estimate nat_eq (rows bs)) (unit nat_eq i) (expansion nat_eq (rows bs) (length bs) y) (Err e)
+    → IsJetOrFailure (estimate nat_eq (rows bs)) (unit nat_eq i) (is_input nat_eq (rows bs)) (expansion nat_eq (rows bs) (length bs) y) (Err e)
     → IsAnswer r (derivative_of nat_eq (rows bs) y i)
 unfolding derivative_of
 derivative_of-failure bs y i e (Ok q) k h = absurd k

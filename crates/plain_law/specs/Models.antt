@@ -1,5 +1,5 @@
 -- The crate's models as those of the definitions: a row's key is its place.
-use Rattle.std.specs.Prelude.{◌≡◌, ℕ, suc, true, false, ⊤, Option, Some, None, Result, Ok, Err, List, [], ◌∷◌}
+use Rattle.std.specs.Prelude.{◌≡◌, ℕ, suc, Bool, true, false, ⊤, Option, Some, None, Result, Ok, Err, List, [], ◌∷◌}
 use Rattle.exact_fraction.specs.Number.{ℚ}
 use Rattle.exact_law.specs.Model.{Expression, Num, Key, Neg, Add, Sub, Mul, Div, Pow, Row, Body, Input, Formula, is_defined, value, slope}
 use Rattle.plain_law.specs.declared.fraction.Exact.{Exact}
@@ -42,14 +42,15 @@ IsAnswer (Ok q) x = x ≡ Some (number q)
 IsAnswer (Err Undefined) x = x ≡ None
 IsAnswer (Err TooWide) x = ⊤
 
--- the jet has the value of f and its derivative along d, which are defined; v has the values of the keys
-pub record IsJetOf (v d : ℕ → ℚ) (f : Expression ℕ) (j : Jet) : Type 0 where
-  pub defined : is_defined v (λ n. true) f ≡ true
+-- the jet has the value of f and its derivative along d, which are defined; v has the values of the keys,
+-- and known says which of them have one
+pub record IsJetOf (v d : ℕ → ℚ) (known : ℕ → Bool) (f : Expression ℕ) (j : Jet) : Type 0 where
+  pub defined : is_defined v known f ≡ true
   pub value_is : number j.value ≡ value v f
   pub slope_is : number j.slope ≡ slope v d f
 
 -- the same where there is one, and else f is not defined, or 128 bits do not hold a number
-abbrev pub IsJetOrFailure : (ℕ → ℚ) → (ℕ → ℚ) → Expression ℕ → Result Jet Failure → Type 0
-IsJetOrFailure v d f (Ok j) = IsJetOf v d f j
-IsJetOrFailure v d f (Err Undefined) = is_defined v (λ n. true) f ≡ false
-IsJetOrFailure v d f (Err TooWide) = ⊤
+abbrev pub IsJetOrFailure : (ℕ → ℚ) → (ℕ → ℚ) → (ℕ → Bool) → Expression ℕ → Result Jet Failure → Type 0
+IsJetOrFailure v d known f (Ok j) = IsJetOf v d known f j
+IsJetOrFailure v d known f (Err Undefined) = is_defined v known f ≡ false
+IsJetOrFailure v d known f (Err TooWide) = ⊤

@@ -1,5 +1,5 @@
 ghost use Rattle.std.specs.Prelude.{nat_eq, ◌&&◌, cond, Some, None};
-ghost use Rattle.exact_law.specs.Model.{estimate, expansion, replaced, unit, value_of, derivative_of};
+ghost use Rattle.exact_law.specs.Model.{estimate, is_input, expansion, replaced, unit, value_of, derivative_of};
 ghost use Rattle.plain_law.specs.Models.{expression, rows, IsAnswer, IsJetOrFailure};
 
 use crate::Exact;
@@ -23,28 +23,27 @@ pub fn derivative(model: &[Body], y: usize, i: usize) -> Result<Exact, Failure>
 // The jet of the row along `along`, with formulas put in `depth` times one into another.
 #[cycle(expansion)]
 fn jet_at(model: &[Body], depth: usize, key: usize, along: usize) -> Result<Jet, Failure>
-    ensures { IsJetOrFailure (estimate nat_eq (rows model.now)) (unit nat_eq along) (expansion nat_eq (rows model.now) depth key) result }
+    ensures { IsJetOrFailure (estimate nat_eq (rows model.now)) (unit nat_eq along) (is_input nat_eq (rows model.now)) (expansion nat_eq (rows model.now) depth key) result }
 {
-    let value = match model.get(key) {
+    match model.get(key) {
         Some(Body::Formula(formula)) => {
             if depth > 0 {
                 return jet_of(model, depth - 1, formula, along);
             }
-            Exact::whole(0)
+            Err(Failure::Undefined)
         }
-        Some(Body::Input(estimate)) => *estimate,
-        None => Exact::whole(0),
-    };
-    Ok(Jet {
-        value,
-        slope: unit(along, key),
-    })
+        Some(Body::Input(estimate)) => Ok(Jet {
+            value: *estimate,
+            slope: unit(along, key),
+        }),
+        None => Err(Failure::Undefined),
+    }
 }
 
 // The same of an expression.
 #[cycle(expansion)]
 fn jet_of(model: &[Body], depth: usize, formula: &Expression, along: usize) -> Result<Jet, Failure>
-    ensures { IsJetOrFailure (estimate nat_eq (rows model.now)) (unit nat_eq along) (replaced (expansion nat_eq (rows model.now) depth) (expression formula.now)) result }
+    ensures { IsJetOrFailure (estimate nat_eq (rows model.now)) (unit nat_eq along) (is_input nat_eq (rows model.now)) (replaced (expansion nat_eq (rows model.now) depth) (expression formula.now)) result }
 {
     match formula {
         Expression::Num(number) => Ok(Jet {

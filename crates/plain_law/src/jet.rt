@@ -1,4 +1,4 @@
-ghost use Rattle.std.specs.Prelude.{◌≡◌, ℕ, IfSome, nat_eq, pos};
+ghost use Rattle.std.specs.Prelude.{◌≡◌, ℕ, Bool, IfSome, nat_eq, pos};
 ghost use Rattle.exact_fraction.specs.Number.{ℚ, of_ℤ, ◌*ℚ◌};
 ghost use Rattle.exact_law.specs.Model.{Expression, Neg, Add, Sub, Mul, Div, Pow, power_slope, unit};
 ghost use Rattle.plain_law.specs.Numbers.{number};
@@ -26,7 +26,7 @@ pub fn unit(along: usize, key: usize) -> Exact
 
 /// The jet of the negative.
 pub fn negative(a: Jet) -> Jet
-    ensures { (v d : ℕ → ℚ) (f : Expression ℕ) → IsJetOf v d f a → IsJetOf v d (Neg f) result }
+    ensures { (v d : ℕ → ℚ) (known : ℕ → Bool) (f : Expression ℕ) → IsJetOf v d known f a → IsJetOf v d known (Neg f) result }
 {
     Jet {
         value: a.value.negated(),
@@ -36,7 +36,7 @@ pub fn negative(a: Jet) -> Jet
 
 /// The jet of the sum.
 pub fn sum(a: Jet, b: Jet) -> Option<Jet>
-    ensures { (v d : ℕ → ℚ) (f g : Expression ℕ) → IsJetOf v d f a → IsJetOf v d g b → IfSome result (IsJetOf v d (Add f g)) }
+    ensures { (v d : ℕ → ℚ) (known : ℕ → Bool) (f g : Expression ℕ) → IsJetOf v d known f a → IsJetOf v d known g b → IfSome result (IsJetOf v d known (Add f g)) }
 {
     let value = a.value.plus(b.value)?;
     let slope = a.slope.plus(b.slope)?;
@@ -45,7 +45,7 @@ pub fn sum(a: Jet, b: Jet) -> Option<Jet>
 
 /// The jet of the difference.
 pub fn difference(a: Jet, b: Jet) -> Option<Jet>
-    ensures { (v d : ℕ → ℚ) (f g : Expression ℕ) → IsJetOf v d f a → IsJetOf v d g b → IfSome result (IsJetOf v d (Sub f g)) }
+    ensures { (v d : ℕ → ℚ) (known : ℕ → Bool) (f g : Expression ℕ) → IsJetOf v d known f a → IsJetOf v d known g b → IfSome result (IsJetOf v d known (Sub f g)) }
 {
     let value = a.value.minus(b.value)?;
     let slope = a.slope.minus(b.slope)?;
@@ -54,7 +54,7 @@ pub fn difference(a: Jet, b: Jet) -> Option<Jet>
 
 /// The jet of the product.
 pub fn product(a: Jet, b: Jet) -> Option<Jet>
-    ensures { (v d : ℕ → ℚ) (f g : Expression ℕ) → IsJetOf v d f a → IsJetOf v d g b → IfSome result (IsJetOf v d (Mul f g)) }
+    ensures { (v d : ℕ → ℚ) (known : ℕ → Bool) (f g : Expression ℕ) → IsJetOf v d known f a → IsJetOf v d known g b → IfSome result (IsJetOf v d known (Mul f g)) }
 {
     let value = a.value.times(b.value)?;
     let left = a.slope.times(b.value)?;
@@ -65,7 +65,7 @@ pub fn product(a: Jet, b: Jet) -> Option<Jet>
 
 /// The jet, where 128 bits hold it.
 pub fn fitted(jet: Option<Jet>) -> Result<Jet, Failure>
-    ensures { (v d : ℕ → ℚ) (f : Expression ℕ) → IfSome jet (IsJetOf v d f) → IsJetOrFailure v d f result }
+    ensures { (v d : ℕ → ℚ) (known : ℕ → Bool) (f : Expression ℕ) → IfSome jet (IsJetOf v d known f) → IsJetOrFailure v d known f result }
 {
     match jet {
         Some(jet) => Ok(jet),
@@ -75,7 +75,7 @@ pub fn fitted(jet: Option<Jet>) -> Result<Jet, Failure>
 
 /// The jet of the quotient, which is undefined exactly where the divisor is 0.
 pub fn quotient(a: Jet, b: Jet) -> Result<Jet, Failure>
-    ensures { (v d : ℕ → ℚ) (f g : Expression ℕ) → IsJetOf v d f a → IsJetOf v d g b → IsJetOrFailure v d (Div f g) result }
+    ensures { (v d : ℕ → ℚ) (known : ℕ → Bool) (f g : Expression ℕ) → IsJetOf v d known f a → IsJetOf v d known g b → IsJetOrFailure v d known (Div f g) result }
 {
     if b.value.is_zero() {
         return Err(Failure::Undefined);
@@ -85,7 +85,7 @@ pub fn quotient(a: Jet, b: Jet) -> Result<Jet, Failure>
 
 // The jet of the quotient; `None` also where the divisor is 0.
 fn quotient_of(a: Jet, b: Jet) -> Option<Jet>
-    ensures { (v d : ℕ → ℚ) (f g : Expression ℕ) → IsJetOf v d f a → IsJetOf v d g b → IfSome result (IsJetOf v d (Div f g)) }
+    ensures { (v d : ℕ → ℚ) (known : ℕ → Bool) (f g : Expression ℕ) → IsJetOf v d known f a → IsJetOf v d known g b → IfSome result (IsJetOf v d known (Div f g)) }
 {
     let value = a.value.over(b.value)?;
     let shared = value.times(b.slope)?;
@@ -95,7 +95,7 @@ fn quotient_of(a: Jet, b: Jet) -> Option<Jet>
 
 /// The jet of the power, which is undefined exactly where the base is 0 and the exponent is negative.
 pub fn power(a: Jet, exponent: i8) -> Result<Jet, Failure>
-    ensures { (v d : ℕ → ℚ) (f : Expression ℕ) → IsJetOf v d f a → IsJetOrFailure v d (Pow f exponent) result }
+    ensures { (v d : ℕ → ℚ) (known : ℕ → Bool) (f : Expression ℕ) → IsJetOf v d known f a → IsJetOrFailure v d known (Pow f exponent) result }
 {
     if exponent < 0 && a.value.is_zero() {
         return Err(Failure::Undefined);
@@ -105,7 +105,7 @@ pub fn power(a: Jet, exponent: i8) -> Result<Jet, Failure>
 
 // The jet of the power; `None` also where it is not defined.
 fn power_of(a: Jet, exponent: i8) -> Option<Jet>
-    ensures { (v d : ℕ → ℚ) (f : Expression ℕ) → IsJetOf v d f a → IfSome result (IsJetOf v d (Pow f exponent)) }
+    ensures { (v d : ℕ → ℚ) (known : ℕ → Bool) (f : Expression ℕ) → IsJetOf v d known f a → IfSome result (IsJetOf v d known (Pow f exponent)) }
 {
     let value = a.value.power(exponent)?;
     let slope = power_slope(a.value, exponent)?.times(a.slope)?;

@@ -3,7 +3,7 @@ use crate::Exact;
 /// Why there is no number.
 #[derive(Clone, Copy, Debug, PartialEq, Eq)]
 pub enum Failure {
-    /// A divisor is 0, or the base of a negative power.
+    /// A divisor is 0, or the base of a negative power; or a key that is used is no row, or uses itself.
     Undefined,
     /// 128 bits do not hold a number on the way.
     TooWide,

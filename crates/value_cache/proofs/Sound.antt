@@ -4,7 +4,7 @@ use Rattle.std.specs.Option.{option_or}
 use Rattle.std.proofs.Common.{sym, ◌∙◌, ap, subst}
 use Rattle.std.proofs.lemmas.Option.{same_Some}
 use Rattle.exact_fraction.specs.Number.{ℚ}
-use Rattle.exact_law.specs.Model.{Expression, Key, Body as ModelBody, Input as ModelInput, value, is_defined, replaced, replaced_body, expansion, expanded, estimate, estimate_in, exact_value, has_value, body_of as model_body_of}
+use Rattle.exact_law.specs.Model.{Expression, Key, Body as ModelBody, Input as ModelInput, value, is_defined, replaced, replaced_body, expansion, expanded, estimate, estimate_in, is_input_body, is_input, exact_value, has_value, body_of as model_body_of}
 use Rattle.exact_law.proofs.Chain.{value-replaced, is_defined-replaced}
 use Rattle.decimal18.specs.Bound.{Bound, value_of}
 use Rattle.fixed_interval.specs.Interval.{Interval, Encloses, point_span}
@@ -20,13 +20,9 @@ use Rattle.value_cache.specs.Model.{model_body, model_of, HasValueIn, BodyHasExp
 use Rattle.value_cache.specs.declared.evaluation.Evaluation.{Evaluation}
 use Rattle.value_cache.specs.declared.evaluation.Evaluation.TheVariants.{Enclosed, Fault}
 
--- the keys that have values of themselves
-abbrev pub known : {K : Type 0} → (K → K → Bool) → List (Quantity K) → K → Bool
-known same qs n = true
-
 -- where there is a span, the expression has a value and the span encloses it
 pub record IsValued {K : Type 0} (same : K → K → Bool) (qs : List (Quantity K)) (e : Expression K) (s : Interval) : Type 0 where
-  pub defined : is_defined (estimate same (model_of qs)) (known same qs) e ≡ true
+  pub defined : is_defined (estimate same (model_of qs)) (is_input same (model_of qs)) e ≡ true
   pub enclosed : Encloses s (value (estimate same (model_of qs)) e)
 
 abbrev pub Holds : {K : Type 0} → (K → K → Bool) → List (Quantity K) → Option (Evaluation K) → Expression K → Type 0
@@ -64,7 +60,7 @@ through same qs k n = expansion same (model_of qs) k n
 -- the spans for which the names of a formula stand enclose the values of the expressions
 pub given_encloses : {K : Type 0} (same : K → K → Bool) (qs : List (Quantity K)) (found : Named K) (e : List ℕ → Expression K)
     → ((n : List ℕ) → Holds same qs (found n) (e n))
-    → AreEnclosed (λ n. span_in (found n)) (λ n. value (estimate same (model_of qs)) (e n)) (λ n. is_defined (estimate same (model_of qs)) (known same qs) (e n))
+    → AreEnclosed (λ n. span_in (found n)) (λ n. value (estimate same (model_of qs)) (e n)) (λ n. is_defined (estimate same (model_of qs)) (is_input same (model_of qs)) (e n))
 given_encloses same qs found e all = record {
   defined = λ n s h. (valued n s (found n) (all n) h).defined;
   enclosed = λ n s h. (valued n s (found n) (all n) h).enclosed;
@@ -106,17 +102,17 @@ formula_holds same qs found e all row f key h = by (span_of (λ n. span_in (foun
   by (Ok s) g =
       let w = formula_encloses _ _ _ (given_encloses same qs (λ n. found (key n)) (λ n. e (key n)) (λ n. all (key n))) f h s g in
       record {
-        defined = is_defined-named (estimate same (model_of qs)) (known same qs) e key (expression_of f) ∙ w.defined;
+        defined = is_defined-named (estimate same (model_of qs)) (is_input same (model_of qs)) e key (expression_of f) ∙ w.defined;
         enclosed = subst (Encloses s) (sym (value-named (estimate same (model_of qs)) e key (expression_of f))) w.enclosed;
       }
   by (Err (Arith fault)) g = tt
   by (Err (NoValue k)) g = fault_holds same qs _ _ (uses f)
 
 input_holds : {K : Type 0} (same : K → K → Bool) (qs : List (Quantity K)) (n : K) (b : Bound) → body_of same qs n ≡ Some (Input b) → IsValued same qs (Key n) (point_span b)
-unfolding value is_defined estimate estimate_in
+unfolding value is_defined estimate estimate_in is_input is_input_body
 input_holds same qs n b e =
     let is : model_body_of same (model_of qs) n ≡ Some (ModelInput (value_of b)) = model-body_of same qs n ∙ ap model_bodies e in
-    record { defined = refl; enclosed = rw is (point_encloses b) }
+    record { defined = rw is refl; enclosed = rw is (point_encloses b) }
 
 through_holds : {K : Type 0} (same : K → K → Bool) (qs : List (Quantity K)) → AllHaveExponents qs → (k : ℕ) (n : K)
     → Holds same qs (evaluation_through same qs k n) (through same qs k n)

@@ -4,6 +4,6 @@ use Rattle.plain_law.proofs.Jets.{power_jet}
 use Rattle.plain_law.proofs.jet.power_of.Goals as goal
 
 pub returns : goal.returns
-returns c v d f h =
-    power_jet v d f c.args.exponent _ _ c.args.a _ c.in_ok-power_slope.field-0 (grind (arith, to_z-of_z)) (grind (arith, to_z-of_z)) h
+returns c v d known f h =
+    power_jet v d known f c.args.exponent _ _ c.args.a _ c.in_ok-power_slope.field-0 (grind (arith, to_z-of_z)) (grind (arith, to_z-of_z)) h
     c.in_ok-value.ensures.defined c.in_ok-value.ensures.power c.in_ok-power_slope.ensures c.in_ok-slope.ensures

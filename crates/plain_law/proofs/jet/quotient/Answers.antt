@@ -3,4 +3,4 @@ use Rattle.plain_law.proofs.Jets.{quotient_undefined}
 use Rattle.plain_law.proofs.jet.quotient.Goals as goal
 
 pub returns-then-is_zero : goal.returns-then-is_zero
-returns-then-is_zero c v d f g h i = quotient_undefined v d f g c.args.b i (sym c.is_zero.ensures ∙ c.if-is_zero.true)
+returns-then-is_zero c v d known f g h i = quotient_undefined v d known f g c.args.b i (sym c.is_zero.ensures ∙ c.if-is_zero.true)
