@@ -1,11 +1,13 @@
 -- The span of a quantity encloses the value of its expanded formula.
-use Rattle.std.specs.Prelude.{◌≡◌, ℕ, zero, suc, Bool, true, false, if◌then◌else◌, List, [], ◌∷◌, length, Option, Some, None, Ok, Err, refl}
+use Rattle.std.specs.Prelude.{◌≡◌, ℕ, zero, suc, Bool, true, false, if◌then◌else◌, List, [], ◌∷◌, length, is_some, Option, Some, None, Ok, Err, refl}
 use Rattle.std.specs.Option.{option_or}
 use Rattle.std.proofs.Common.{sym, ◌∙◌, ap, subst}
+use Rattle.std.proofs.lemmas.Bool.{true≢false}
 use Rattle.std.proofs.lemmas.Option.{same_Some}
 use Rattle.exact_fraction.specs.Number.{ℚ}
 use Rattle.exact_law.specs.Model.{Expression, Key, Body as ModelBody, Input as ModelInput, value, is_defined, replaced, replaced_body, expansion, expanded, estimate, estimate_in, is_input_body, is_input, exact_value, has_value, body_of as model_body_of}
 use Rattle.exact_law.proofs.Chain.{value-replaced, is_defined-replaced}
+use Rattle.exact_law.proofs.NoValues.{no_quantity}
 use Rattle.decimal18.specs.Bound.{Bound, value_of}
 use Rattle.fixed_interval.specs.Interval.{Interval, Encloses, point_span}
 use Rattle.formula_ast.specs.Trees.{Tree, HasExponents, uses}
@@ -14,7 +16,7 @@ use Rattle.formula_box.specs.declared.fault.EvalFault.TheVariants.{Arith, NoValu
 use Rattle.formula_box.specs.Exact.{expression_of, AreEnclosed}
 use Rattle.fixed_interval.proofs.Enclosures.{point_encloses}
 use Rattle.formula_box.proofs.Enclosing.{formula_encloses}
-use Rattle.value_cache.specs.Quantities.{Body, Input, Function, Quantity, body_of}
+use Rattle.value_cache.specs.Quantities.{Body, Input, Function, Quantity, body_of, is_there}
 use Rattle.value_cache.specs.Evaluations.{Found, Named, span_in, is_fault, first_fault, settled, evaluation_of_formula, evaluation_of_body, evaluation_through, evaluation_of}
 use Rattle.value_cache.specs.Model.{model_body, model_of, HasValueIn, BodyHasExponents, AllHaveExponents}
 use Rattle.value_cache.specs.declared.evaluation.Evaluation.{Evaluation}
@@ -136,3 +138,13 @@ unfolding evaluation_of exact_value has_value expanded
 values_enclosed same qs h n s e =
     let w : IsValued same qs (through same qs (length qs) n) s = rw e at (through_holds same qs h (length qs) n) in
     record { defined = rw (length-model qs) w.defined; enclosed = rw (length-model qs) w.enclosed }
+
+-- ---- a key that is no quantity's
+no_body : {K : Type 0} (body : Option (Body K)) → is_some body ≡ false → model_bodies body ≡ None
+no_body None e = refl
+no_body (Some body) e = absurd (true≢false e)
+
+pub no_value : {K : Type 0} (same : K → K → Bool) (qs : List (Quantity K)) (n : K) (s : Interval) → is_there same qs n ≡ false
+    → HasValueIn same qs n s → ⊥
+no_value same qs n s unknown h =
+    true≢false (sym h.defined ∙ no_quantity same (model_of qs) n (model-body_of same qs n ∙ no_body (body_of same qs n) unknown))

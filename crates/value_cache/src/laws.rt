@@ -1,7 +1,7 @@
-ghost use Rattle.std.specs.Prelude.{◌≡◌, ℕ, Bool, List, Some, find, length, map};
+ghost use Rattle.std.specs.Prelude.{◌≡◌, ℕ, Bool, false, List, Some, find, length, map};
 ghost use Rattle.fixed_interval.specs.Interval.{Interval};
 ghost use Rattle.formula_ast.specs.Trees.{distinct};
-ghost use Rattle.value_cache.specs.Quantities.{Quantity, body_of};
+ghost use Rattle.value_cache.specs.Quantities.{Quantity, body_of, is_there};
 ghost use Rattle.value_cache.specs.Evaluations.{evaluation_of};
 ghost use Rattle.value_cache.specs.Model.{AllHaveExponents, HasValueIn};
 ghost use Rattle.value_cache.specs.declared.evaluation.Evaluation.TheVariants.{Enclosed};
@@ -10,6 +10,12 @@ ghost use Rattle.value_cache.specs.declared.evaluation.Evaluation.TheVariants.{E
 pub fn values_are_enclosed<K>()
     ensures { (same : K → K → Bool) (qs : List (Quantity K)) → AllHaveExponents qs → (n : K) (s : Interval)
         → evaluation_of same qs n ≡ Some (Enclosed s) → HasValueIn same qs n s }
+{}
+
+/// A key that is no quantity's has no value in any span.
+pub fn unknown_has_no_value<K>()
+    ensures { (same : K → K → Bool) (qs : List (Quantity K)) (n : K) (s : Interval)
+        → is_there same qs n ≡ false → ¬ (HasValueIn same qs n s) }
 {}
 
 /// The order in which quantities are listed changes no evaluation: lists of one length that say the same
