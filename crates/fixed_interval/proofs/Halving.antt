@@ -1,9 +1,8 @@
 -- The power by halvings does not depend on how many are allowed, once they are enough, so it is the
 -- square of the power by the half, times the span where the exponent is odd.
-use Rattle.std.specs.Prelude.{◌≡◌, ℕ, zero, suc, ◌+◌, ◌*◌, ◌/◌, ◌%◌, ◌<◌, ◌≤◌, ◌==◌, nat_le, Bool, true, false, cond, ◌⊎◌, Option, None, Some, Result, Ok, Err, IfOk, IfSome, ℤ, pos, negsuc, ◌≤ℤ◌, ◌<ℤ◌, ◌≢◌, unsigned_abs, refl, [], ◌∷◌}
+use Rattle.std.specs.Prelude.{◌≡◌, ℕ, zero, suc, ◌+◌, ◌/◌, ◌%◌, ◌<◌, ◌≤◌, ◌==◌, nat_le, true, false, cond, ◌⊎◌, Option, None, Some, Result, Ok, Err, IfOk, ℤ, pos, negsuc, ◌≤ℤ◌, ◌<ℤ◌, ◌≢◌, unsigned_abs, refl, [], ◌∷◌}
 use Rattle.std.specs.Option.{ok_or}
-use Rattle.std.proofs.Common.{sym, ap, subst, ◌∙◌, arith, inl, inr, zero-add}
-use native.Mathlib.Nat.{suc-add}
+use Rattle.std.proofs.Common.{sym, ap, subst, ◌∙◌, arith, inl, inr}
 use Rattle.std.proofs.lemmas.Bool.{cond-true, cond-false, le-leb, lt-leb, ne_eqb, cases_lt}
 use Rattle.std.proofs.lemmas.Option.{none-some, same_Some}
 use Rattle.exact_fraction.specs.Number.{ℚ, of_ℤ, ◌*ℚ◌, ◌/ℚ◌, inv_ℚ}
@@ -11,7 +10,7 @@ use Rattle.exact_fraction.specs.Powers.{power, whole_power}
 use Rattle.exact_fraction.proofs.PowerLaws.{power-suc, power-one, power-+, whole_power-pos, whole_power-negsuc}
 use Rattle.std.proofs.lemmas.Int.{ints}
 use Rattle.decimal18.specs.Bound.{Bound}
-use Rattle.exact_fraction.proofs.Ring.{◌:*◌, Whole, x0, x1, x2, ring}
+use Rattle.exact_fraction.proofs.Ring.{◌:*◌, Whole, x0, ring}
 use Rattle.fixed_interval.specs.Interval.{Interval, Encloses, point_span}
 use Rattle.fixed_interval.specs.declared.faults.ArithFault.{ArithFault}
 use Rattle.fixed_interval.specs.Rules.{one_bound, product_span, square_span}

@@ -1,9 +1,9 @@
 -- The span that covers two rounded spans is that of the least of their least results and the greatest
 -- of their greatest ones, and there is none exactly where one of the two is out of range.
 use Rattle.std.specs.Prelude.{◌≡◌, Option, None, Some, refl}
-use Rattle.std.proofs.Common.{sym, ap, ap₂, ◌∙◌}
+use Rattle.std.proofs.Common.{sym, ap₂, ◌∙◌}
 use Rattle.std.proofs.lemmas.Option.{none-some}
-use Rattle.exact_fraction.specs.Number.{ℚ, of_ℤ, ◌≤ℚ◌, min_ℚ, max_ℚ}
+use Rattle.exact_fraction.specs.Number.{ℚ, ◌≤ℚ◌, min_ℚ, max_ℚ}
 use Rattle.exact_fraction.specs.NumberLaws.{≤ℚ_refl, ≤ℚ_trans}
 use Rattle.decimal18.specs.Bound.{Bound, value_of}
 use Rattle.decimal18.specs.Down.{down, up, IsInRange}
@@ -13,7 +13,7 @@ use Rattle.fixed_interval.specs.Interval.{Interval, IsOrdered, from_ends, outwar
 use Rattle.fixed_interval.specs.Extremes.{lesser, greater, hull}
 use Rattle.fixed_interval.specs.Rules.{corners_span}
 use Rattle.fixed_interval.proofs.Enclosures.{outward_ends}
-use Rattle.exact_fraction.proofs.Extremes.{min-≤_left, min-≤_right, ≤-min, max-≥_left, max-≥_right, max-≤}
+use Rattle.exact_fraction.proofs.Extremes.{min-≤_left, min-≤_right, max-≥_left, max-≥_right}
 use Rattle.fixed_interval.proofs.Least.{down-min, up-max, lesser-≤_left, greater-≥_left}
 
 no_ends : (l h : Option Bound) → from_ends l h ≡ None → (P : Type 0) → (l ≡ None → P) → (h ≡ None → P) → P

@@ -1,23 +1,23 @@
 -- An exact result of numbers in spans lies between the corners of the operation.
-use Rattle.std.specs.Prelude.{◌≡◌, ◌≢◌, ◌⊎◌, Bool, true, false, cond, Option, None, Some, Result, Ok, Err, IfOk, pos, ◌&&◌, refl, [], ◌∷◌}
+use Rattle.std.specs.Prelude.{◌≡◌, ◌≢◌, ◌⊎◌, Bool, true, false, cond, Some, Result, Err, IfOk, pos, ◌&&◌, refl, [], ◌∷◌}
 use Rattle.std.specs.Option.{ok_or}
-use Rattle.std.proofs.Common.{sym, ap, subst, ◌∙◌, inl, inr}
+use Rattle.std.proofs.Common.{sym, ap, ◌∙◌, inl, inr}
 use Rattle.std.proofs.lemmas.Bool.{and_from, true≢false, cond-true, cond-false}
 use std.Quotient.{/_rec}
 use Rattle.exact_fraction.specs.Fraction.{is_zero_ℤ}
 use Rattle.exact_fraction.specs.Number.{ℚ, of_ℤ, ◌+ℚ◌, ◌*ℚ◌, ◌/ℚ◌, neg_ℚ, inv_ℚ, is_zero_ℚ, is_at_most_ℚ, ◌≤ℚ◌, min_ℚ, max_ℚ}
-use Rattle.exact_fraction.specs.NumberLaws.{≤ℚ_refl, ≤ℚ_trans, ≤ℚ_same, ≤ℚ_total, ≤ℚ-turned, +ℚ-≤ℚ_both, neg_ℚ-≤ℚ, *ℚ_comm, *ℚ-inv}
+use Rattle.exact_fraction.specs.NumberLaws.{≤ℚ_refl, ≤ℚ_trans, ≤ℚ_total, ≤ℚ-turned, +ℚ-≤ℚ_both, neg_ℚ-≤ℚ, *ℚ_comm, *ℚ-inv}
 use Rattle.exact_fraction.proofs.Quotients.{≢-is_zero_ℚ}
 use Rattle.exact_fraction.proofs.OrderLaws.{≤ℚ_left, ≤ℚ_right, ≤ℚ_by, ≤ℚ-difference, *ℚ-not_negative, square-not_negative, *ℚ-≤ℚ_both, *ℚ-≤ℚ_turned, *ℚ-between}
-use Rattle.exact_fraction.proofs.Ring.{◌:+◌, ◌:*◌, ◌:-◌, Minus, Whole, x0, x1, x2, x3, ring}
+use Rattle.exact_fraction.proofs.Ring.{◌:+◌, ◌:*◌, ◌:-◌, Whole, x0, x1, x2, x3, ring}
 use Rattle.decimal18.specs.Bound.{Bound, value_of}
 use Rattle.decimal18.proofs.Values.{value-whole}
-use Rattle.fixed_interval.specs.Interval.{Interval, Encloses, IsOrdered, outward}
+use Rattle.fixed_interval.specs.Interval.{Interval, Encloses, IsOrdered}
 use Rattle.fixed_interval.specs.Rules.{zero_bound, holds_zero, corners_span, difference_span, product_span, square_span, quotient_span, quotient}
 use Rattle.fixed_interval.specs.declared.faults.ArithFault.{ArithFault}
 use Rattle.fixed_interval.specs.declared.faults.ArithFault.TheVariants.{ZeroDivisor, Overflow}
 use Rattle.fixed_interval.proofs.Enclosures.{outward_encloses, answer_has}
-use Rattle.exact_fraction.proofs.Extremes.{min-≤_left, min-≤_right, ≤-min, max-≥_left, max-≥_right, max-≤}
+use Rattle.exact_fraction.proofs.Extremes.{min-≤_left, min-≤_right, max-≥_left, max-≥_right}
 
 -- ---- between two numbers, in their order or in the other
 abbrev pub Lies : ℚ → ℚ → ℚ → Type 0

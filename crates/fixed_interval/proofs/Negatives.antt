@@ -8,7 +8,7 @@ use Rattle.exact_fraction.specs.NumberLaws.{neg_ℚ-≤ℚ}
 use Rattle.exact_fraction.proofs.OrderLaws.{≤ℚ_left, ≤ℚ_right}
 use Rattle.decimal18.specs.Bound.{Bound, value_of}
 use Rattle.decimal18.specs.Down.{negated}
-use Rattle.fixed_interval.specs.Interval.{Interval, Encloses, IsOrdered}
+use Rattle.fixed_interval.specs.Interval.{Interval, Encloses}
 use Rattle.fixed_interval.specs.Rules.{negative_span}
 
 pub value-negated : (b : Bound) → value_of (negated b) ≡ neg_ℚ (value_of b)

@@ -1,15 +1,14 @@
 -- Ends that are raised, cut or compared, and what this says of the numbers in a span.
-use Rattle.std.specs.Prelude.{◌≡◌, Bool, true, false, cond, refl}
+use Rattle.std.specs.Prelude.{◌≡◌, true, false, refl}
 use Rattle.std.proofs.Common.{sym, ◌∙◌}
 use Rattle.std.proofs.lemmas.Bool.{cond-true, cond-false, true≢false}
 use Rattle.exact_fraction.specs.Number.{ℚ, ◌≤ℚ◌, is_at_most_ℚ, min_ℚ, max_ℚ}
-use Rattle.exact_fraction.specs.NumberLaws.{≤ℚ_refl, ≤ℚ_trans, ≤ℚ-turned}
+use Rattle.exact_fraction.specs.NumberLaws.{≤ℚ_refl, ≤ℚ_trans}
 use Rattle.exact_fraction.proofs.OrderLaws.{≤ℚ_left, ≤ℚ_right}
 use Rattle.decimal18.specs.Bound.{Bound, value_of}
-use Rattle.fixed_interval.specs.Interval.{Interval, Encloses, IsOrdered}
-use Rattle.fixed_interval.specs.Extremes.{lesser, greater}
+use Rattle.fixed_interval.specs.Interval.{Interval, Encloses}
+use Rattle.fixed_interval.specs.Extremes.{greater}
 use Rattle.fixed_interval.specs.Rules.{floored_span, cut_span, brought_into, comparison}
-use Rattle.fixed_interval.specs.declared.faults.Truth.{Truth}
 use Rattle.fixed_interval.specs.declared.faults.Truth.TheVariants.{Yes, No, Unsettled}
 use Rattle.exact_fraction.proofs.Extremes.{min-≤-min, max-≤-max}
 use Rattle.fixed_interval.proofs.Least.{value-lesser, value-greater}

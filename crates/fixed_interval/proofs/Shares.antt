@@ -3,19 +3,19 @@ use Rattle.std.specs.Prelude.{◌≡◌, Bool, true, false, cond, Option, None, 
 use Rattle.std.proofs.Common.{sym, ◌∙◌, arith}
 use Rattle.std.proofs.lemmas.Int.{ints}
 use Rattle.std.proofs.lemmas.Bool.{true≢false, cond-true, cond-false}
-use Rattle.exact_fraction.specs.Number.{ℚ, of_ℤ, ◌*ℚ◌, ◌/ℚ◌, inv_ℚ, is_zero_ℚ, is_at_most_ℚ, ◌≤ℚ◌}
+use Rattle.exact_fraction.specs.Number.{ℚ, of_ℤ, ◌/ℚ◌, inv_ℚ, is_zero_ℚ, is_at_most_ℚ, ◌≤ℚ◌}
 use Rattle.exact_fraction.specs.NumberLaws.{≤ℚ_refl, ≤ℚ_trans, ≤ℚ_same, ≤ℚ-turned, of_ℤ-≤ℚ}
 use Rattle.exact_fraction.proofs.Quotients.{≢-is_zero_ℚ}
-use Rattle.exact_fraction.proofs.OrderLaws.{≤ℚ_left, ≤ℚ_right, *ℚ-not_negative, *ℚ-≤ℚ_both, inv_ℚ-not_negative, /ℚ-≤ℚ_iff}
+use Rattle.exact_fraction.proofs.OrderLaws.{≤ℚ_right, *ℚ-not_negative, *ℚ-≤ℚ_both, inv_ℚ-not_negative, /ℚ-≤ℚ_iff}
 use Rattle.exact_fraction.proofs.Ring.{◌:*◌, Whole, x0, ring}
 use Rattle.decimal18.specs.Bound.{Bound, value_of}
-use Rattle.decimal18.specs.Down.{down, up, IsInRange, top}
-use Rattle.decimal18.proofs.Rounding.{down_some, down_none}
-use Rattle.decimal18.proofs.Upward.{up_some, up_none}
-use Rattle.fixed_interval.specs.Interval.{Interval, Encloses, IsOrdered, from_ends, outward}
+use Rattle.decimal18.specs.Down.{down, up, IsInRange}
+use Rattle.decimal18.proofs.Rounding.{down_none}
+use Rattle.decimal18.proofs.Upward.{up_none}
+use Rattle.fixed_interval.specs.Interval.{Interval, Encloses, IsOrdered, from_ends}
 use Rattle.fixed_interval.specs.Rules.{greatest_share, share_span, one_bound}
 use Rattle.decimal18.proofs.Values.{value-whole}
-use Rattle.fixed_interval.proofs.Enclosures.{outward_encloses, outward-ends}
+use Rattle.fixed_interval.proofs.Enclosures.{outward_encloses}
 use Rattle.fixed_interval.proofs.Squares.{one_up}
 use Rattle.fixed_interval.proofs.Inclusions.{zero_ℚ, inverse_falls}
 

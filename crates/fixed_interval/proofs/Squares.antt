@@ -1,10 +1,10 @@
 -- The span of squares is that of the two corners, and of 0 where that is in the span.
-use Rattle.std.specs.Prelude.{◌≡◌, Bool, true, false, cond, Some, ℤ, pos, neg_ℤ, ◌≤ℤ◌, refl}
+use Rattle.std.specs.Prelude.{◌≡◌, true, false, Some, ℤ, pos, neg_ℤ, ◌≤ℤ◌}
 use Rattle.std.proofs.Common.{sym, ap, ap₂, ◌∙◌, arith}
 use Rattle.std.proofs.lemmas.Bool.{cond-true, cond-false}
 use Rattle.std.proofs.lemmas.Int.{ints}
 use Rattle.exact_fraction.specs.Number.{ℚ, of_ℤ, ◌*ℚ◌, ◌≤ℚ◌, min_ℚ, max_ℚ}
-use Rattle.exact_fraction.specs.NumberLaws.{≤ℚ_refl, ≤ℚ_trans, ≤ℚ_same, ≤ℚ_antisym, of_ℤ-≤ℚ}
+use Rattle.exact_fraction.specs.NumberLaws.{≤ℚ_refl, ≤ℚ_trans, ≤ℚ_antisym, of_ℤ-≤ℚ}
 use Rattle.exact_fraction.proofs.OrderLaws.{≤ℚ_left, ≤ℚ_right, square-not_negative}
 use Rattle.decimal18.specs.Bound.{Bound, scaled, value_of, IsBound, IsCanonical}
 use Rattle.decimal18.specs.Down.{down, up, top, IsInRange}
@@ -14,7 +14,7 @@ use Rattle.decimal18.proofs.Values.{value-whole}
 use Rattle.fixed_interval.specs.Interval.{Interval, outward, point_span}
 use Rattle.fixed_interval.specs.Extremes.{hull}
 use Rattle.fixed_interval.specs.Rules.{zero_bound, one_bound, holds_zero, square_span}
-use Rattle.exact_fraction.proofs.Extremes.{min-≤_left, min-≤_right, ≤-min, max-≥_left, max-≥_right, max-≤}
+use Rattle.exact_fraction.proofs.Extremes.{min-≤_left, min-≤_right, ≤-min, max-≥_left, max-≤}
 use Rattle.fixed_interval.proofs.Hulls.{outward-hull, outward_some, two_corners}
 
 -- a bound is rounded to itself

@@ -2,7 +2,7 @@
 use Rattle.std.specs.Prelude.{◌≡◌, List, [], ◌∷◌, ◌++◌, map, Option, None, Some, Ok, Err, pos, refl}
 use Rattle.std.specs.Option.{ok_or, unwrap_or}
 use Rattle.std.proofs.Common.{◌∙◌, ap, subst}
-use Rattle.exact_fraction.specs.Number.{ℚ, of_ℤ, ◌+ℚ◌, ◌*ℚ◌, neg_ℚ}
+use Rattle.exact_fraction.specs.Number.{ℚ, ◌+ℚ◌, ◌*ℚ◌, neg_ℚ}
 use Rattle.exact_fraction.specs.Sums.{total}
 use Rattle.exact_fraction.proofs.Ring.{ring, Whole, ◌:+◌, x0, x1, x2}
 use Rattle.fixed_interval.specs.Interval.{Interval, Encloses, sum_span}

@@ -1,5 +1,5 @@
 -- Spans of whole powers, and how many steps these take.
-use Rattle.std.specs.Prelude.{ℕ, zero, suc, ◌+◌, ◌/◌, ◌%◌, ◌==◌, ◌||◌, if◌then◌else◌, nat_le, Option, None, Some, Result, Ok, Err, ℤ, pos, negsuc}
+use Rattle.std.specs.Prelude.{ℕ, zero, suc, ◌+◌, ◌/◌, ◌%◌, ◌==◌, if◌then◌else◌, nat_le, Option, None, Some, Result, Ok, Err, ℤ, pos, negsuc}
 use Rattle.fixed_interval.specs.declared.faults.ArithFault.{ArithFault}
 use Rattle.fixed_interval.specs.declared.faults.ArithFault.TheVariants.{Overflow}
 use Rattle.fixed_interval.specs.Interval.{Interval, point_span}

@@ -1,6 +1,6 @@
 -- The rule by which each operation finds its span. The exact results at the ends are its corners, and
 -- `outward` rounds the least of them down and the greatest up.
-use Rattle.std.specs.Prelude.{◌^◌, ◌&&◌, Bool, if◌then◌else◌, Option, Result, Err, ℤ, pos, ℕ}
+use Rattle.std.specs.Prelude.{◌^◌, ◌&&◌, Bool, if◌then◌else◌, Option, Result, Err, pos, ℕ}
 use Rattle.std.specs.Option.{ok_or}
 use Rattle.exact_fraction.specs.Number.{ℚ, of_ℤ, ◌+ℚ◌, ◌*ℚ◌, ◌/ℚ◌, neg_ℚ, is_at_most_ℚ, min_ℚ, max_ℚ}
 use Rattle.exact_fraction.specs.Ratio.{value_of_ratio}

@@ -1,6 +1,5 @@
-use Rattle.exact_fraction.specs.Number.{◌*ℚ◌, ◌/ℚ◌}
+use Rattle.exact_fraction.specs.Number.{◌*ℚ◌}
 use Rattle.decimal18.specs.Bound.{value_of}
-use Rattle.fixed_interval.proofs.Inclusions.{ends_not_zero}
 use Rattle.fixed_interval.proofs.Hulls.{four_corners}
 use Rattle.fixed_interval.proofs.corners.products.Goals as goal
 

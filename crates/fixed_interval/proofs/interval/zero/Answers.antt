@@ -1,6 +1,4 @@
-use Rattle.exact_fraction.specs.NumberLaws.{≤ℚ_refl, ≤ℚ_same}
-use Rattle.std.proofs.Common.{ap}
-use Rattle.decimal18.specs.Bound.{value_of}
+use Rattle.exact_fraction.specs.NumberLaws.{≤ℚ_refl}
 use Rattle.fixed_interval.proofs.interval.zero.Goals as goal
 
 pub invariant_of-result : goal.invariant_of-result

@@ -1,5 +1,3 @@
-use Rattle.std.proofs.Common.{sym, ap, ◌∙◌}
-use Rattle.decimal18.specs.Down.{up}
 use Rattle.fixed_interval.proofs.Inclusions.{coefficient_not_zero}
 use Rattle.fixed_interval.proofs.Shares.{greatest_is_one, greatest_is_less, whole_not_zero}
 use Rattle.fixed_interval.proofs.limits.greatest_share.Goals as goal

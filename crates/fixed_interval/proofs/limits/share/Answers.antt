@@ -1,4 +1,4 @@
-use Rattle.std.proofs.Common.{sym, ap, ◌∙◌}
+use Rattle.std.proofs.Common.{sym, ◌∙◌}
 use Rattle.exact_fraction.specs.NumberLaws.{≤ℚ_trans}
 use Rattle.fixed_interval.proofs.Enclosures.{outward-ends, outward_in_order}
 use Rattle.fixed_interval.proofs.Inclusions.{coefficient_not_zero}

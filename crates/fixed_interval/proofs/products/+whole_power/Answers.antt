@@ -1,5 +1,4 @@
-use Rattle.std.specs.Prelude.{refl, ◌≡◌, ◌+◌, ◌/◌, ◌%◌, ◌<◌, Some, None}
-use Rattle.std.specs.Option.{ok_or}
+use Rattle.std.specs.Prelude.{refl, ◌≡◌, ◌+◌, ◌/◌, ◌<◌}
 use Rattle.std.proofs.Common.{arith, sym, ap, ◌∙◌}
 use Rattle.fixed_interval.specs.Rules.{square_span}
 use Rattle.fixed_interval.specs.Powers.{power_span, power_steps, then_span}

@@ -1,4 +1,3 @@
-use Rattle.std.proofs.Common.{ℕ}
 use Rattle.fixed_interval.proofs.products.+whole_power.Given as goal
 
 abbrev pub decreases-whole_power : goal.decreases-whole_power

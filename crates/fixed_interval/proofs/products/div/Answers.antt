@@ -1,4 +1,3 @@
-use Rattle.std.proofs.Common.{sym, ap, ◌∙◌}
 use Rattle.fixed_interval.proofs.Inclusions.{quotient_by_zero, quotient_without_zero, quotient_encloses}
 use Rattle.fixed_interval.proofs.products.div.Goals as goal
 

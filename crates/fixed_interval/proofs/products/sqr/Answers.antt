@@ -1,5 +1,3 @@
-use Rattle.std.proofs.Common.{sym, ap, ◌∙◌}
-use Rattle.std.specs.Option.{ok_or}
 use Rattle.fixed_interval.proofs.Enclosures.{answer_has}
 use Rattle.fixed_interval.proofs.Squares.{square_with_zero, square_without_zero}
 use Rattle.fixed_interval.proofs.Inclusions.{square_span_encloses}
