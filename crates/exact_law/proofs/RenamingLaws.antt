@@ -5,7 +5,7 @@ use Rattle.std.proofs.Math.Path.{fun_ext}
 use Rattle.exact_fraction.specs.Number.{ℚ, of_ℤ, ◌+ℚ◌, ◌*ℚ◌}
 use Rattle.exact_fraction.specs.Sums.{total}
 use Rattle.exact_law.specs.Model.{Expression, Num, Key, Neg, Add, Sub, Mul, Div, Pow, value, slope, is_defined, replaced, Body, Input, Formula, Row, body_of, estimate_in, estimate, is_input_body, is_input, replaced_body, expansion, expanded, unit, exact_value, exact_slope, has_value}
-use Rattle.exact_law.specs.Law.{Column, Group, Own, Correlated, Joint, joint, cell, covariance_in, covariance, law_of, inputs_with, inputs_of, law}
+use Rattle.exact_law.specs.Law.{Column, Group, Own, Pair, Joint, joint, cell, covariance_in, covariance, law_of, inputs_with, inputs_of, law}
 use Rattle.exact_law.specs.Renaming.{KeepsApart, renamed, renamed_body, renamed_rows, renamed_columns, renamed_group, renamed_groups}
 use Rattle.exact_fraction.proofs.SumLaws.{total-same}
 use Rattle.exact_law.proofs.Chain.{value-replaced, slope-replaced, is_defined-replaced}
@@ -33,10 +33,10 @@ covariance_in-renamed : {K L : Type 0} (same : K → K → Bool) (same' : L → 
     → (g : Group K) (i j : K) → covariance_in same' (renamed_group rename g) (rename i) (rename j) ≡ covariance_in same g i j
 unfolding covariance_in renamed_group
 covariance_in-renamed same same' rename k (Own a c d) i j = cell-renamed same same' rename k a a c i j
-covariance_in-renamed same same' rename k (Correlated a b r s t) i j =
+covariance_in-renamed same same' rename k (Pair a b v w c d) i j =
     ap₂ ◌+ℚ◌
-    (ap₂ ◌+ℚ◌ (cell-renamed same same' rename k a a (s *ℚ s) i j) (cell-renamed same same' rename k b b (t *ℚ t) i j))
-    (ap₂ ◌+ℚ◌ (cell-renamed same same' rename k a b (r *ℚ (s *ℚ t)) i j) (cell-renamed same same' rename k b a (r *ℚ (s *ℚ t)) i j))
+    (ap₂ ◌+ℚ◌ (cell-renamed same same' rename k a a v i j) (cell-renamed same same' rename k b b w i j))
+    (ap₂ ◌+ℚ◌ (cell-renamed same same' rename k a b c i j) (cell-renamed same same' rename k b a c i j))
 covariance_in-renamed same same' rename k (Joint n columns) i j =
     total-renamed rename _ _
     (λ a. total-renamed rename _ _ (λ b. cell-renamed same same' rename k a.key b.key (joint n a.reading b.reading) i j) columns) columns

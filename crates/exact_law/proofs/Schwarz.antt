@@ -9,7 +9,7 @@ use Rattle.exact_fraction.proofs.OrderLaws.{≤ℚ_right, ≤ℚ_by, ≤ℚ_canc
 use Rattle.exact_fraction.proofs.Ring.{Var, Whole, ◌:+◌, ◌:*◌, Minus, x0, x1, x2, x3, x4, x5, ring}
 use Rattle.exact_fraction.specs.Sums.{total, below}
 use Rattle.exact_law.specs.Model.{IsSameTest}
-use Rattle.exact_law.specs.Law.{Group, Own, Correlated, Joint, joint, covariance, law_of, part, AllGroups, IsSoundFor}
+use Rattle.exact_law.specs.Law.{Group, Own, Pair, Joint, joint, covariance, law_of, part, AllGroups, IsSoundFor}
 use Rattle.exact_fraction.proofs.SumLaws.{total-same, total-swap}
 use Rattle.exact_fraction.proofs.Signs.{not_negative-same, whole-not_negative}
 use Rattle.exact_law.proofs.Split.{total-linear, law_split, part-not_negative}
@@ -25,8 +25,8 @@ joint-sym n q r =
 part-sym : {K : Type 0} (g : Group K) (u w : K → ℚ) → part g u w ≡ part g w u
 unfolding part
 part-sym (Own k c d) u w = ring (u k ∷ w k ∷ c ∷ []) (x0 :* x1 :* x2) (x1 :* x0 :* x2) refl
-part-sym (Correlated k m r a b) u w =
-    ring (u k ∷ u m ∷ w k ∷ w m ∷ (r *ℚ (a *ℚ b)) ∷ (a *ℚ a) ∷ (b *ℚ b) ∷ [])
+part-sym (Pair k m v v' c d) u w =
+    ring (u k ∷ u m ∷ w k ∷ w m ∷ c ∷ v ∷ v' ∷ [])
     ((x0 :* x2 :* x5 :+ x1 :* x3 :* Var 6) :+ (x0 :* x3 :* x4 :+ x1 :* x2 :* x4))
     ((x2 :* x0 :* x5 :+ x3 :* x1 :* Var 6) :+ (x2 :* x1 :* x4 :+ x3 :* x0 :* x4)) refl
 part-sym (Joint n columns) u w =

@@ -1,18 +1,19 @@
 -- The law is the sum of the groups' parts, and no part is negative.
-use Rattle.std.specs.Prelude.{◌≡◌, ℕ, zero, suc, ◌-◌, Bool, true, ◌&&◌, List, [], ◌∷◌, pos, ◌+ℤ◌, refl}
+use Rattle.std.specs.Prelude.{◌≡◌, ℕ, zero, suc, ◌-◌, Bool, true, false, ◌&&◌, List, [], ◌∷◌, pos, ◌+ℤ◌, refl}
 use Rattle.std.proofs.Common.{sym, ◌∙◌, ap, ap₂, arith}
 use Rattle.std.proofs.lemmas.Int.{ints}
-use Rattle.exact_fraction.specs.Number.{ℚ, of_ℤ, ◌+ℚ◌, ◌*ℚ◌, neg_ℚ, inv_ℚ, ◌≤ℚ◌, ◌-ℚ◌}
-use Rattle.exact_fraction.specs.NumberLaws.{≤ℚ_refl, of_ℤ-+}
-use Rattle.exact_fraction.proofs.OrderLaws.{≤ℚ-difference, +ℚ-not_negative, *ℚ-not_negative, square-not_negative}
+use Rattle.exact_fraction.specs.Number.{ℚ, of_ℤ, ◌+ℚ◌, ◌*ℚ◌, neg_ℚ, inv_ℚ, is_zero_ℚ, ◌≤ℚ◌, ◌-ℚ◌}
+use Rattle.exact_fraction.specs.NumberLaws.{≤ℚ_refl, ≤ℚ_antisym, of_ℤ-+}
+use Rattle.exact_fraction.proofs.Quotients.{is_zero_ℚ-≡}
+use Rattle.exact_fraction.proofs.OrderLaws.{≤ℚ_right, ≤ℚ_by, ≤ℚ_cancel, ≤ℚ-difference, +ℚ-not_negative, *ℚ-not_negative, square-not_negative}
 use Rattle.exact_fraction.proofs.Ring.{Whole, ◌:+◌, ◌:-◌, ◌:*◌, Minus, x0, x1, x2, x3, x4, x5, ring}
 use Rattle.exact_fraction.specs.Sums.{total, below}
 use Rattle.exact_law.specs.Model.{IsSameTest, unit, once}
-use Rattle.exact_law.specs.Law.{Column, Group, Own, Correlated, Joint, joint, cell, covariance_in, covariance, law_of, part, IsSound, members, stand_in, AllGroups, IsSoundFor}
+use Rattle.exact_law.specs.Law.{Column, Group, Own, Pair, Joint, joint, cell, covariance_in, covariance, law_of, part, IsSound, members, stand_in, AllGroups, IsSoundFor}
 use Rattle.exact_fraction.proofs.SumLaws.{total-same, total-zero, total-plus, total-times, total-times_right, total-swap}
 use Rattle.exact_law.proofs.Tests.{and_left, and_right}
 use Rattle.exact_law.proofs.Chain.{along-once}
-use Rattle.exact_fraction.proofs.Signs.{not_negative-same, whole-not_negative, inv-not_negative, total-not_negative}
+use Rattle.exact_fraction.proofs.Signs.{not_negative-same, whole-not_negative, inv-not_negative, total-not_negative, product_zero}
 
 -- ---- the double sum, linear in the covariances
 law_of-zero : {K : Type 0} (inputs : List K) (u w : K → ℚ) → law_of (λ i j. of_ℤ (pos 0)) inputs u w ≡ of_ℤ (pos 0)
@@ -80,13 +81,13 @@ law_of-group : {K : Type 0} (same : K → K → Bool) → IsSameTest same → (i
     → stand_in same inputs (members g) ≡ true → law_of (covariance_in same g) inputs u w ≡ part g u w
 unfolding covariance_in part stand_in members
 law_of-group same law inputs u w (Own k c d) h = law_of-cell same law k k c inputs u w (and_left _ _ h) (and_left _ _ h)
-law_of-group same law inputs u w (Correlated k m r a b) h =
+law_of-group same law inputs u w (Pair k m v v' c d) h =
     law_of-plus _ _ inputs u w
     ∙ ap₂ ◌+ℚ◌
     (law_of-plus _ _ inputs u w
-    ∙ ap₂ ◌+ℚ◌ (law_of-cell same law k k (a *ℚ a) inputs u w k1 k1) (law_of-cell same law m m (b *ℚ b) inputs u w m1 m1))
+    ∙ ap₂ ◌+ℚ◌ (law_of-cell same law k k v inputs u w k1 k1) (law_of-cell same law m m v' inputs u w m1 m1))
     (law_of-plus _ _ inputs u w
-    ∙ ap₂ ◌+ℚ◌ (law_of-cell same law k m (r *ℚ (a *ℚ b)) inputs u w k1 m1) (law_of-cell same law m k (r *ℚ (a *ℚ b)) inputs u w m1 k1)) where
+    ∙ ap₂ ◌+ℚ◌ (law_of-cell same law k m c inputs u w k1 m1) (law_of-cell same law m k c inputs u w m1 k1)) where
       k1 : once same k inputs ≡ true
       k1 = and_left (once same k inputs) (once same m inputs && true) h
 
@@ -217,20 +218,48 @@ scale-not_negative n =
     inv-not_negative _
     (*ℚ-not_negative _ _ (*ℚ-not_negative _ _ (whole-not_negative n) (whole-not_negative n)) (whole-not_negative (n - 1)))
 
+-- ---- the form of two variances and a covariance is not negative
+abbrev form : (v w c p q : ℚ) → ℚ
+form v w c p q = ((p *ℚ p *ℚ v) +ℚ (q *ℚ q *ℚ w)) +ℚ ((p *ℚ q *ℚ c) +ℚ (q *ℚ p *ℚ c))
+
+square_zero : (c : ℚ) → c *ℚ c ≤ℚ of_ℤ (pos 0) → c ≡ of_ℤ (pos 0)
+square_zero c h = by (is_zero_ℚ c) refl where
+  by : (b : Bool) → is_zero_ℚ c ≡ b → c ≡ of_ℤ (pos 0)
+  by true e = is_zero_ℚ-≡ c e
+  by false e = product_zero c c e (≤ℚ_antisym _ _ h (square-not_negative c))
+
+-- v times the form is (p v + q c)² + q² (v w - c²)
+form-by_first : (v w c p q : ℚ) → of_ℤ (pos 0) ≤ℚ v → is_zero_ℚ v ≡ false → c *ℚ c ≤ℚ v *ℚ w → of_ℤ (pos 0) ≤ℚ form v w c p q
+form-by_first v w c p q v0 n h =
+    ≤ℚ_cancel (of_ℤ (pos 0)) (form v w c p q) v v0 n
+    (≤ℚ_by (of_ℤ (pos 0) *ℚ v) (form v w c p q *ℚ v)
+    (((p *ℚ v +ℚ q *ℚ c) *ℚ (p *ℚ v +ℚ q *ℚ c)) +ℚ ((q *ℚ q) *ℚ ((v *ℚ w) -ℚ (c *ℚ c))))
+    (ring (v ∷ w ∷ c ∷ p ∷ q ∷ [])
+    ((Whole (pos 0) :* x0) :+ (((x3 :* x0 :+ x4 :* x2) :* (x3 :* x0 :+ x4 :* x2)) :+ ((x4 :* x4) :* ((x0 :* x1) :- (x2 :* x2)))))
+    ((((x3 :* x3 :* x0) :+ (x4 :* x4 :* x1)) :+ ((x3 :* x4 :* x2) :+ (x4 :* x3 :* x2))) :* x0) refl)
+    (+ℚ-not_negative _ _ (square-not_negative _) (*ℚ-not_negative _ _ (square-not_negative q) (≤ℚ-difference _ _ h))))
+
+form-not_negative : (v w c p q : ℚ) → of_ℤ (pos 0) ≤ℚ v → of_ℤ (pos 0) ≤ℚ w → c *ℚ c ≤ℚ v *ℚ w → of_ℤ (pos 0) ≤ℚ form v w c p q
+form-not_negative v w c p q v0 w0 h = by (is_zero_ℚ v) refl where
+  flat : v ≡ of_ℤ (pos 0) → of_ℤ (pos 0) ≤ℚ form v w c p q
+  flat e =
+      let c0 : c ≡ of_ℤ (pos 0) =
+      square_zero c (≤ℚ_right _ _ _ (ap (λ t. t *ℚ w) e ∙ ring (w ∷ []) (Whole (pos 0) :* x0) (Whole (pos 0)) refl) h) in
+      not_negative-same _ ((q *ℚ q) *ℚ w)
+      (ap₂ (λ s t. form s w t p q) e c0
+      ∙ ring (w ∷ p ∷ q ∷ [])
+      (((x1 :* x1 :* Whole (pos 0)) :+ (x2 :* x2 :* x0)) :+ ((x1 :* x2 :* Whole (pos 0)) :+ (x2 :* x1 :* Whole (pos 0)))) ((x2 :* x2) :* x0) refl)
+      (*ℚ-not_negative _ w (square-not_negative q) w0)
+
+  by : (b : Bool) → is_zero_ℚ v ≡ b → of_ℤ (pos 0) ≤ℚ form v w c p q
+  by true e = flat (is_zero_ℚ-≡ v e)
+  by false e = form-by_first v w c p q v0 e h
+
 -- ---- no part is negative
 pub part-not_negative : {K : Type 0} (g : Group K) (u : K → ℚ) → IsSound g → of_ℤ (pos 0) ≤ℚ part g u u
 unfolding part IsSound
 part-not_negative (Own k c d) u h = *ℚ-not_negative _ c (square-not_negative (u k)) h.0
-part-not_negative (Correlated k m r a b) u h =
-    not_negative-same _
-    (((u k *ℚ a +ℚ r *ℚ (u m *ℚ b)) *ℚ (u k *ℚ a +ℚ r *ℚ (u m *ℚ b)))
-    +ℚ (((of_ℤ (pos 1) -ℚ r) *ℚ (r -ℚ neg_ℚ (of_ℤ (pos 1)))) *ℚ ((u m *ℚ b) *ℚ (u m *ℚ b))))
-    (ring (u k ∷ u m ∷ r ∷ a ∷ b ∷ [])
-    ((x0 :* x0 :* (x3 :* x3) :+ x1 :* x1 :* (x4 :* x4)) :+ (x0 :* x1 :* (x2 :* (x3 :* x4)) :+ x1 :* x0 :* (x2 :* (x3 :* x4))))
-    (((x0 :* x3 :+ x2 :* (x1 :* x4)) :* (x0 :* x3 :+ x2 :* (x1 :* x4)))
-    :+ ((Whole (pos 1) :- x2) :* (x2 :- Minus (Whole (pos 1)))) :* ((x1 :* x4) :* (x1 :* x4))) refl)
-    (+ℚ-not_negative _ _ (square-not_negative _)
-    (*ℚ-not_negative _ _ (*ℚ-not_negative _ _ (≤ℚ-difference r _ h.1) (≤ℚ-difference _ r h.0)) (square-not_negative (u m *ℚ b))))
+part-not_negative (Pair k m v w c d) u h = form-not_negative v w c (u k) (u m) h.0 h.1 h.2
 part-not_negative (Joint n columns) u h =
     not_negative-same _ _ (part-joint n columns u)
     (*ℚ-not_negative _ _ (scale-not_negative n) (spread-not_negative (joined columns u) n))

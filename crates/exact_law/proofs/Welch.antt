@@ -9,7 +9,7 @@ use Rattle.exact_fraction.proofs.OrderLaws.{≤ℚ_left, ≤ℚ_right, ≤ℚ_by
 use Rattle.exact_fraction.proofs.Ring.{Whole, ◌:+◌, ◌:*◌, x0, x1, x2, ring}
 use Rattle.exact_fraction.specs.Sums.{total}
 use Rattle.exact_law.specs.Model.{Row, IsSameTest, exact_slope}
-use Rattle.exact_law.specs.Law.{Group, Own, Correlated, Joint, law, part, part_of, inputs_of, IsSound, AllGroups, IsSoundFor}
+use Rattle.exact_law.specs.Law.{Group, Own, Pair, Joint, law, part, part_of, inputs_of, IsSound, AllGroups, IsSoundFor}
 use Rattle.exact_law.specs.Degrees.{Share, counts, any_counts, weight, NoDegrees, InfiniteDegrees, FiniteDegrees, effective, inverse_degrees, share_of, shares_of, degrees_of}
 use Rattle.exact_fraction.proofs.Signs.{product_zero, whole-not_negative, inv-not_negative}
 use Rattle.exact_law.proofs.Split.{law_split, part-not_negative}
@@ -129,7 +129,7 @@ effective-above m ss v x h e f = by (is_zero_ℚ v) (any_counts ss) refl f where
 inverse_degrees-not_negative : {K : Type 0} (g : Group K) → IsSound g → of_ℤ (pos 0) ≤ℚ inverse_degrees g
 unfolding inverse_degrees IsSound
 inverse_degrees-not_negative (Own k c d) h = h.1
-inverse_degrees-not_negative (Correlated k n r a b) h = ≤ℚ_refl _
+inverse_degrees-not_negative (Pair k n v w c d) h = h.3
 inverse_degrees-not_negative (Joint n columns) h = inv-not_negative _ (whole-not_negative (n - 1))
 
 shares-above : {K : Type 0} (same : K → K → Bool) (model : List (Row K)) (y : K) (m : ℚ) (inputs : List K) (groups : List (Group K))

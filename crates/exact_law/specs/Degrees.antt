@@ -4,12 +4,13 @@ use Rattle.std.specs.Prelude.{ℕ, ◌-◌, Bool, false, cond, not, ◌&&◌, �
 use Rattle.exact_fraction.specs.Number.{ℚ, of_ℤ, ◌*ℚ◌, ◌/ℚ◌, inv_ℚ, is_zero_ℚ, is_at_most_ℚ}
 use Rattle.exact_fraction.specs.Sums.{total}
 use Rattle.exact_law.specs.Model.{Row}
-use Rattle.exact_law.specs.Law.{Group, Own, Correlated, Joint, law, part_of}
+use Rattle.exact_law.specs.Law.{Group, Own, Pair, Joint, law, part_of}
 
--- 1/ν of a group, and 0 where its degrees are infinite: n readings have n - 1 (JCGM 100:2008, G.3.3)
+-- 1/ν of a group, and 0 where its degrees are infinite. The mean of n readings has ν = n - 1 (JCGM
+-- 100:2008, G.3.3); that a table of several columns has the same is a choice of ours
 unfoldable pub inverse_degrees : {K : Type 0} → Group K → ℚ
 inverse_degrees (Own k c d) = d
-inverse_degrees (Correlated k m r a b) = of_ℤ (pos 0)
+inverse_degrees (Pair k m v w c d) = d
 inverse_degrees (Joint n columns) = inv_ℚ (of_ℤ (pos (n - 1)))
 
 -- what a group brings to a variance: its part, and its 1/ν
@@ -120,7 +121,9 @@ unfoldable pub row_at : ℚ → Factors → List Factors → Factors
 row_at x f [] = f
 row_at x f (g ∷ gs) = cond (is_at_most_ℚ (of_ℤ (pos g.degrees)) x) (row_at x g gs) f
 
--- the row for the degrees: a finite ν that is no row's takes the next lower one (JCGM 100:2008, G.4.1)
+-- the row for the degrees. JCGM 100:2008, G.4.1 has a ν that is no whole number interpolated or cut off to
+-- the next lower one; that one which is no row's takes the next lower row, and one below 1 the first, is
+-- ours
 unfoldable pub row_of : Degrees → Factors
 row_of NoDegrees = infinite_row
 row_of InfiniteDegrees = infinite_row

@@ -1,10 +1,10 @@
 -- The law of propagation of uncertainty (JCGM 100:2008, 5.1.2, 5.2.2, H.2): a double sum over the
 -- inputs, of two sensitivities and the covariance of the two inputs. Covariances come from groups of
 -- inputs, and the law is the sum of the groups' parts.
-use Rattle.std.specs.Prelude.{◌≡◌, ℕ, ◌-◌, Bool, true, ◌&&◌, List, [], ◌∷◌, map, pos}
-use Rattle.exact_fraction.specs.Number.{ℚ, of_ℤ, ◌+ℚ◌, ◌*ℚ◌, ◌/ℚ◌, neg_ℚ, ◌≤ℚ◌, ◌-ℚ◌}
+use Rattle.std.specs.Prelude.{◌≡◌, ℕ, ◌-◌, Bool, true, cond, ◌&&◌, Option, Some, None, List, [], ◌∷◌, map, pos}
+use Rattle.exact_fraction.specs.Number.{ℚ, of_ℤ, ◌+ℚ◌, ◌*ℚ◌, ◌/ℚ◌, ◌≤ℚ◌, ◌-ℚ◌}
 use Rattle.exact_fraction.specs.Sums.{total, below}
-use Rattle.exact_law.specs.Model.{Row, Body, Input, Formula, once, unit, exact_slope}
+use Rattle.exact_law.specs.Model.{Row, Body, Input, Formula, once, unit, exact_slope, has_value}
 
 -- a column of a table of joint readings: its quantity, and what its record t reads
 pub record Column (K : Type 0) : Type 0 where
@@ -15,10 +15,15 @@ pub record Column (K : Type 0) : Type 0 where
 pub data Group (K : Type 0) : Type 0 where
   -- an input with its variance (JCGM 100:2008, 4.2.3, 4.3) and 1/ν, which is 0 for infinite degrees
   Own : K → ℚ → ℚ → Group K
-  -- two inputs with their declared correlation coefficient (5.2.2) and their standard uncertainties
-  Correlated : K → K → ℚ → ℚ → ℚ → Group K
+  -- two inputs with their two variances, their covariance (5.2.2) and the 1/ν of these
+  Pair : K → K → ℚ → ℚ → ℚ → ℚ → Group K
   -- the columns of a table of n records (H.2); readings of one quantity are a table of one column
   Joint : ℕ → List (Column K) → Group K
+
+-- two inputs with a declared correlation coefficient r (5.2.2) and the standard uncertainties a and b,
+-- whose degrees are infinite
+abbrev pub declared_pair : {K : Type 0} → K → K → ℚ → ℚ → ℚ → Group K
+declared_pair k m r a b = Pair k m (a *ℚ a) (b *ℚ b) (r *ℚ (a *ℚ b)) (of_ℤ (pos 0))
 
 -- the mean of n readings (JCGM 100:2008, 4.2.1)
 unfoldable pub mean : ℕ → (ℕ → ℚ) → ℚ
@@ -37,9 +42,8 @@ cell same a b c i j = unit same i a *ℚ unit same j b *ℚ c
 -- the covariance of the inputs i and j within a group, and 0 where one of them is no member
 unfoldable pub covariance_in : {K : Type 0} → (K → K → Bool) → Group K → K → K → ℚ
 covariance_in same (Own k c d) i j = cell same k k c i j
-covariance_in same (Correlated k m r a b) i j =
-    (cell same k k (a *ℚ a) i j +ℚ cell same m m (b *ℚ b) i j)
-    +ℚ (cell same k m (r *ℚ (a *ℚ b)) i j +ℚ cell same m k (r *ℚ (a *ℚ b)) i j)
+covariance_in same (Pair k m v w c d) i j =
+    (cell same k k v i j +ℚ cell same m m w i j) +ℚ (cell same k m c i j +ℚ cell same m k c i j)
 covariance_in same (Joint n columns) i j =
     total (λ a. total (λ b. cell same a.key b.key (joint n a.reading b.reading) i j) columns) columns
 
@@ -54,9 +58,8 @@ law_of c inputs u w = total (λ i. total (λ j. u i *ℚ w j *ℚ c i j) inputs)
 -- the part of a group: the same sum over its members
 unfoldable pub part : {K : Type 0} → Group K → (K → ℚ) → (K → ℚ) → ℚ
 part (Own k c d) u w = u k *ℚ w k *ℚ c
-part (Correlated k m r a b) u w =
-    ((u k *ℚ w k *ℚ (a *ℚ a)) +ℚ (u m *ℚ w m *ℚ (b *ℚ b)))
-    +ℚ ((u k *ℚ w m *ℚ (r *ℚ (a *ℚ b))) +ℚ (u m *ℚ w k *ℚ (r *ℚ (a *ℚ b))))
+part (Pair k m v w' c d) u w =
+    ((u k *ℚ w k *ℚ v) +ℚ (u m *ℚ w m *ℚ w')) +ℚ ((u k *ℚ w m *ℚ c) +ℚ (u m *ℚ w k *ℚ c))
 part (Joint n columns) u w =
     total (λ a. total (λ b. u a.key *ℚ w b.key *ℚ joint n a.reading b.reading) columns) columns
 
@@ -78,16 +81,25 @@ law same model groups y z =
 unfoldable pub part_of : {K : Type 0} → (K → K → Bool) → List (Row K) → Group K → K → ℚ
 part_of same model g y = part g (exact_slope same model y) (exact_slope same model y)
 
+-- the covariance of y and z, and the part of a group in the variance of y, where they are defined
+unfoldable pub law_where_defined : {K : Type 0} → (K → K → Bool) → List (Row K) → List (Group K) → K → K → Option ℚ
+law_where_defined same model groups y z =
+    cond (has_value same model y && has_value same model z) (Some (law same model groups y z)) None
+
+unfoldable pub part_where_defined : {K : Type 0} → (K → K → Bool) → List (Row K) → Group K → K → Option ℚ
+part_where_defined same model g y = cond (has_value same model y) (Some (part_of same model g y)) None
+
 -- ---- what is asked of a group
--- a variance and 1/ν are not negative, and a correlation lies from -1 to 1
+-- no variance and no 1/ν is negative, and the square of a covariance is at most the product of the two
+-- variances
 unfoldable pub IsSound : {K : Type 0} → Group K → Type 0
 IsSound (Own k c d) = (of_ℤ (pos 0) ≤ℚ c) × (of_ℤ (pos 0) ≤ℚ d)
-IsSound (Correlated k m r a b) = (neg_ℚ (of_ℤ (pos 1)) ≤ℚ r) × (r ≤ℚ of_ℤ (pos 1))
+IsSound (Pair k m v w c d) = (of_ℤ (pos 0) ≤ℚ v) × (of_ℤ (pos 0) ≤ℚ w) × (c *ℚ c ≤ℚ v *ℚ w) × (of_ℤ (pos 0) ≤ℚ d)
 IsSound (Joint n columns) = Unit {0}
 
 unfoldable pub members : {K : Type 0} → Group K → List K
 members (Own k c d) = k ∷ []
-members (Correlated k m r a b) = k ∷ m ∷ []
+members (Pair k m v w c d) = k ∷ m ∷ []
 members (Joint n columns) = map (λ a. a.key) columns
 
 -- whether each of the keys stands once among the inputs

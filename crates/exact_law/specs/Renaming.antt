@@ -1,7 +1,7 @@
 -- A model under new names for its keys, as when the names of a sheet become numbers of a graph.
 use Rattle.std.specs.Prelude.{◌≡◌, List, [], ◌∷◌, Bool}
 use Rattle.exact_law.specs.Model.{Expression, Key, replaced, Body, Input, Formula, Row}
-use Rattle.exact_law.specs.Law.{Group, Own, Correlated, Joint, Column}
+use Rattle.exact_law.specs.Law.{Group, Own, Pair, Joint, Column}
 
 -- two keys have one name exactly where they are one key
 pub record KeepsApart {K L : Type 0} (same : K → K → Bool) (same' : L → L → Bool) (rename : K → L) : Type 0 where
@@ -24,7 +24,7 @@ renamed_columns rename (c ∷ cs) = record { key = rename c.key; reading = c.rea
 
 unfoldable pub renamed_group : {K L : Type 0} → (K → L) → Group K → Group L
 renamed_group rename (Own k c d) = Own (rename k) c d
-renamed_group rename (Correlated k m r a b) = Correlated (rename k) (rename m) r a b
+renamed_group rename (Pair k m v w c d) = Pair (rename k) (rename m) v w c d
 renamed_group rename (Joint n columns) = Joint n (renamed_columns rename columns)
 
 unfoldable pub renamed_groups : {K L : Type 0} → (K → L) → List (Group K) → List (Group L)

@@ -1,7 +1,8 @@
--- Rounded numbers (JCGM 100:2008, 7.2.6): the whole part, an estimate at a decimal place, the two
--- significant digits of the square root of a variance, and the hundredths of a correlation
--- coefficient. Ties go upward.
-use Rattle.std.specs.Prelude.{ℕ, suc, ◌+◌, ◌-◌, ◌*◌, ◌≤◌, ◌==◌, cond, ℤ, pos, negsuc, ◌<ℤ◌, unsigned_abs}
+-- Rounded numbers: the whole part, an estimate at a decimal place, the two significant digits of the
+-- square root of a variance, and the hundredths of a correlation coefficient. JCGM 100:2008, 7.2.6 asks
+-- for at most two digits, and for enough of a coefficient. That ties go upward, and the exact conditions
+-- on squares below, are ours.
+use Rattle.std.specs.Prelude.{◌≡◌, ℕ, suc, ◌+◌, ◌-◌, ◌*◌, ◌≤◌, ◌==◌, cond, ℤ, pos, negsuc, ◌<ℤ◌, unsigned_abs}
 use Rattle.exact_fraction.specs.Number.{ℚ, of_ℤ, ◌+ℚ◌, ◌*ℚ◌, ◌/ℚ◌, inv_ℚ, ◌≤ℚ◌, floor_ℚ, ◌<ℚ◌}
 use Rattle.exact_fraction.specs.Powers.{power}
 
@@ -30,6 +31,16 @@ pub record IsTwoDigits (v : ℚ) (m : ℕ) (e : ℤ) : Type 0 where
   pub low : scaled_square (least_root m) e ≤ℚ of_ℤ (pos 400) *ℚ v
   pub high : of_ℤ (pos 400) *ℚ v <ℚ scaled_square (20 * m + 10) e
 
+-- the two digits with their place, or none for a variance that is 0
+pub data Digits : Type 0 where
+  Zero : Digits
+  Two : ℕ → ℤ → Digits
+
+-- the digits are those of the root of v
+unfoldable pub AreDigitsOf : ℚ → Digits → Type 0
+AreDigitsOf v Zero = v ≡ of_ℤ (pos 0)
+AreDigitsOf v (Two m e) = IsTwoDigits v m e
+
 -- the same in two steps: the place where the root has two digits, and there the nearest whole number,
 -- which may be 100, that is 10 at the next place
 pub record IsNearest (v : ℚ) (m : ℕ) (e : ℤ) : Type 0 where
@@ -44,8 +55,10 @@ pub record IsHundredths (f : ℚ) (m : ℕ) : Type 0 where
   pub high : of_ℤ (pos 40000) *ℚ f <ℚ of_ℤ (pos ((2 * m + 1) * (2 * m + 1)))
 
 -- the correlation coefficient (JCGM 100:2008, 5.2.2) of two quantities with the covariance c and the
--- variances v and w is rounded to d hundredths
+-- variances v and w, both of them above 0, is rounded to d hundredths
 pub record IsCorrelation (c v w : ℚ) (d : ℤ) : Type 0 where
+  pub first : of_ℤ (pos 0) <ℚ v
+  pub second : of_ℤ (pos 0) <ℚ w
   pub magnitude : IsHundredths (c *ℚ c /ℚ (v *ℚ w)) (unsigned_abs d)
   pub positive : pos 0 <ℤ d → of_ℤ (pos 0) ≤ℚ c
   pub negative : d <ℤ pos 0 → c ≤ℚ of_ℤ (pos 0)

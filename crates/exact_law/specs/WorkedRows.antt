@@ -2,7 +2,7 @@
 use Rattle.std.specs.Prelude.{ℕ, List, [], ◌∷◌, pos, negsuc}
 use Rattle.exact_fraction.specs.Number.{ℚ, of_ℤ, inv_ℚ}
 use Rattle.exact_law.specs.Model.{Num, Key, Add, Sub, Mul, Body, Input, Formula, Row}
-use Rattle.exact_law.specs.Law.{Group, Own, Correlated}
+use Rattle.exact_law.specs.Law.{Group, Own, declared_pair}
 
 abbrev pub whole : ℕ → ℚ
 whole n = of_ℤ (pos n)
@@ -43,4 +43,4 @@ fully_correlated =
     ∷ []
 
 abbrev pub fully_correlated_groups : List (Group ℕ)
-fully_correlated_groups = Correlated 0 1 (of_ℤ (negsuc 0)) (whole 1) (whole 1) ∷ []
+fully_correlated_groups = declared_pair 0 1 (of_ℤ (negsuc 0)) (whole 1) (whole 1) ∷ []

@@ -1,11 +1,11 @@
 -- What a place and the two digits that the code holds are.
 use Rattle.std.specs.Prelude.{◌≡◌, ℕ, ◌+◌, ◌*◌, ◌≤◌, ℤ, pos}
 use Rattle.exact_fraction.specs.Number.{ℚ, of_ℤ, ◌≤ℚ◌, ◌<ℚ◌}
-use Rattle.exact_law.specs.Rounding.{ten_to, least_root, scaled_square, IsTwoDigits}
+use Rattle.exact_law.specs.Rounding.{ten_to, least_root, scaled_square, Digits, Zero, Two}
 use Rattle.plain_law.specs.Numbers.{number}
 use Rattle.plain_law.specs.declared.place.Place.{Place}
-use Rattle.plain_law.specs.declared.digits.Digits.{Digits}
-use Rattle.plain_law.specs.declared.digits.Digits.TheVariants.{Zero, Two}
+use Rattle.plain_law.specs.declared.digits.Digits.{Digits as HeldDigits}
+use Rattle.plain_law.specs.declared.digits.Digits.TheVariants.{Zero as HeldZero, Two as HeldTwo}
 
 -- the unit is 10 to the power of the exponent
 pub record HasUnit (place : Place) : Type 0 where
@@ -24,7 +24,7 @@ pub record AreDigits (s : ℚ) (m : ℕ) (e : ℤ) : Type 0 where
   pub low : scaled_square (least_root m) e ≤ℚ s
   pub high : s <ℚ scaled_square (20 * m + 10) e
 
--- the digits are those of the root of v
-abbrev pub AreDigitsOf : ℚ → Digits → Type 0
-AreDigitsOf v Zero = v ≡ of_ℤ (pos 0)
-AreDigitsOf v (Two m e) = IsTwoDigits v m e
+-- the digits as those of the definitions
+abbrev pub digits_of : HeldDigits → Digits
+digits_of HeldZero = Zero
+digits_of (HeldTwo m e) = Two m e

@@ -102,20 +102,18 @@ fn covariance_in(group: &Group, i: usize, j: usize) -> Option<Exact>
             variance,
             inverse_degrees: _,
         } => cell(*key, *key, *variance, i, j),
-        Group::Correlated {
+        Group::Pair {
             first,
             second,
-            correlation,
-            first_deviation,
-            second_deviation,
+            first_variance,
+            second_variance,
+            covariance,
+            inverse_degrees: _,
         } => {
-            let a = *first_deviation;
-            let b = *second_deviation;
-            let both = correlation.times(a.times(b)?)?;
-            let own = cell(*first, *first, a.times(a)?, i, j)?;
-            let own = own.plus(cell(*second, *second, b.times(b)?, i, j)?)?;
-            let shared = cell(*first, *second, both, i, j)?;
-            own.plus(shared.plus(cell(*second, *first, both, i, j)?)?)
+            let own = cell(*first, *first, *first_variance, i, j)?;
+            let own = own.plus(cell(*second, *second, *second_variance, i, j)?)?;
+            let shared = cell(*first, *second, *covariance, i, j)?;
+            own.plus(shared.plus(cell(*second, *first, *covariance, i, j)?)?)
         }
         Group::Joint(table) => in_table(table, i, j),
     }

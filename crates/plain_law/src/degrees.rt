@@ -1,11 +1,13 @@
 ghost use Rattle.std.specs.Prelude.{◌≡◌, pos, true, false, map, IfSome, IsSome};
 ghost use Rattle.exact_fraction.specs.Number.{of_ℤ, floor_ℚ, is_zero_ℚ};
 ghost use Rattle.exact_fraction.specs.Sums.{total};
-ghost use Rattle.exact_law.specs.Degrees.{any_counts, counts, effective, factor, row_at, row_of, thousandths, weight};
+ghost use Rattle.exact_law.specs.Degrees.{any_counts, counts, effective, factor, inverse_degrees, row_at, row_of, thousandths, weight};
 ghost use Rattle.plain_law.specs.Numbers.{number};
+ghost use Rattle.plain_law.specs.Groups.{group_of};
 ghost use Rattle.plain_law.specs.DegreeViews.{degrees_of, factors_of, level_of, share_of};
 
 use crate::fraction::Exact;
+use crate::group::Group;
 
 /// What a group of inputs brings to a variance: its part, and its 1/ν, which is 0 for infinite degrees.
 #[derive(Clone, Copy, Debug)]
@@ -28,6 +30,29 @@ pub enum Level {
     Percent95,
     Percent9545,
     Percent99,
+}
+
+/// 1/ν of a group, and 0 where its degrees are infinite. `None` comes only where 128 bits do not hold it.
+#[tactic(auto, unfolding(exact_law::specs::Degrees::inverse_degrees))]
+pub fn inverse_degrees(group: &Group) -> Option<Exact>
+    ensures { IfSome result (λ r. number r ≡ inverse_degrees (group_of group.now)) }
+{
+    match group {
+        Group::Own {
+            key: _,
+            variance: _,
+            inverse_degrees,
+        } => Some(*inverse_degrees),
+        Group::Pair {
+            first: _,
+            second: _,
+            first_variance: _,
+            second_variance: _,
+            covariance: _,
+            inverse_degrees,
+        } => Some(*inverse_degrees),
+        Group::Joint(table) => Exact::count(table.records().saturating_sub(1)).inverse(),
+    }
 }
 
 // Whether the share is not 0 and its degrees are finite.

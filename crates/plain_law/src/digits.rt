@@ -1,8 +1,8 @@
 ghost use Rattle.std.specs.Prelude.{◌≡◌, true, IfSome, Some};
 ghost use Rattle.exact_fraction.specs.Number.{of_ℤ, is_zero_ℚ, ◌≤ℚ◌, ◌<ℚ◌};
-ghost use Rattle.exact_law.specs.Rounding.{at_place, scaled_square, IsCorrelation, IsHundredths};
+ghost use Rattle.exact_law.specs.Rounding.{at_place, scaled_square, AreDigitsOf, IsCorrelation, IsHundredths};
 ghost use Rattle.plain_law.specs.Numbers.{number};
-ghost use Rattle.plain_law.specs.DigitViews.{HasUnit, IsPlaceOf, AreDigits, AreDigitsOf};
+ghost use Rattle.plain_law.specs.DigitViews.{HasUnit, IsPlaceOf, AreDigits, digits_of};
 
 use crate::fraction::Exact;
 use crate::place::Place;
@@ -76,9 +76,10 @@ fn digits_at(scaled: Exact, place: Place) -> Option<u8>
 
 /// The two digits of a standard uncertainty (JCGM 100:2008, 7.2.6), from its square. `None` comes only
 /// where the variance is negative, or where 128 bits do not hold a number on the way.
+#[tactic(auto, unfolding(exact_law::specs::Rounding::AreDigitsOf))]
 pub fn two_digits(variance: Exact) -> Option<Digits>
     ensures zero { is_zero_ℚ (number variance) ≡ true → result ≡ Some Digits.Zero }
-    ensures digits { IfSome result (AreDigitsOf (number variance)) }
+    ensures digits { IfSome result (λ r. AreDigitsOf (number variance) (digits_of r)) }
 {
     if variance.is_zero() {
         return Some(Digits::Zero);
@@ -124,11 +125,17 @@ pub fn hundredths(square: Exact) -> Option<u8>
 }
 
 /// The correlation coefficient (JCGM 100:2008, 5.2.2) of two quantities with this covariance and these
-/// variances, in hundredths. `None` comes only where a variance is 0, where the coefficient is out of
-/// range, or where 128 bits do not hold a number on the way.
+/// variances, in hundredths. `None` comes only where a variance is not above 0, where the coefficient is
+/// out of range, or where 128 bits do not hold a number on the way.
 pub fn correlation(covariance: Exact, first: Exact, second: Exact) -> Option<i16>
     ensures { IfSome result (IsCorrelation (number covariance) (number first) (number second)) }
 {
+    let zero = Exact::whole(0);
+    let first_is_zero = first.at_most(zero)?;
+    let second_is_zero = second.at_most(zero)?;
+    if first_is_zero || second_is_zero {
+        return None;
+    }
     let square = covariance.times(covariance)?.over(first.times(second)?)?;
     let size = i16::from(hundredths(square)?);
     if covariance.is_not_negative() {

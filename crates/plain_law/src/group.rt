@@ -55,13 +55,15 @@ pub enum Group {
         variance: Exact,
         inverse_degrees: Exact,
     },
-    /// Two inputs with their correlation coefficient (5.2.2) and their standard uncertainties.
-    Correlated {
+    /// Two inputs with their variances, their covariance (5.2.2) and the 1/ν of these. A declared
+    /// correlation coefficient `r` of the standard uncertainties `a` and `b` is the covariance `r a b`.
+    Pair {
         first: usize,
         second: usize,
-        correlation: Exact,
-        first_deviation: Exact,
-        second_deviation: Exact,
+        first_variance: Exact,
+        second_variance: Exact,
+        covariance: Exact,
+        inverse_degrees: Exact,
     },
     /// The columns of a table (H.2); readings of one quantity are a table of one column.
     Joint(Table),

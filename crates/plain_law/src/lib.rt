@@ -26,7 +26,7 @@ mod sign;
 mod tests;
 
 pub use covariances::{covariance, joint, mean};
-pub use degrees::{Degrees, Level, Share, effective, factor, whole_degrees};
+pub use degrees::{Degrees, Level, Share, effective, factor, inverse_degrees, whole_degrees};
 pub use digits::{Digits, at_place, correlation, hundredths, two_digits};
 pub use evaluate::{derivative, value};
 pub use fraction::Exact;

@@ -2,10 +2,10 @@ ghost use Rattle.std.specs.Prelude.{◌≡◌, IfSome, nat_eq};
 ghost use Rattle.exact_fraction.specs.Number.{◌*ℚ◌};
 ghost use Rattle.exact_fraction.specs.Sums.{total};
 ghost use Rattle.exact_law.specs.Model.{exact_slope};
-ghost use Rattle.exact_law.specs.Law.{joint, covariance, inputs_of, law, part_of};
+ghost use Rattle.exact_law.specs.Law.{joint, covariance, inputs_of, law, part_of, law_where_defined, part_where_defined};
 ghost use Rattle.plain_law.specs.Numbers.{number};
 ghost use Rattle.plain_law.specs.Models.{rows, IsAnswer};
-ghost use Rattle.plain_law.specs.Groups.{column, columns, group_of, groups_of, if_input, law_where_defined, part_where_defined};
+ghost use Rattle.plain_law.specs.Groups.{column, columns, group_of, groups_of, if_input};
 
 use crate::Exact;
 use crate::covariances::{covariance, joint};
@@ -16,7 +16,7 @@ use crate::model::{Body, Failure};
 /// The covariance of the rows `y` and `z` (JCGM 100:2008, 5.1.2, 5.2.2, H.2), and the variance of one
 /// row where they are the same.
 pub fn law(model: &[Body], groups: &[Group], y: usize, z: usize) -> Result<Exact, Failure>
-    ensures { IsAnswer result (law_where_defined (rows model.now) (groups_of groups.now) y z) }
+    ensures { IsAnswer result (law_where_defined nat_eq (rows model.now) (groups_of groups.now) y z) }
 {
     let _first = value(model, y)?;
     let _second = value(model, z)?;
@@ -28,7 +28,7 @@ pub fn law(model: &[Body], groups: &[Group], y: usize, z: usize) -> Result<Exact
 
 /// The part of a group in the variance of the row `y`.
 pub fn part_of(model: &[Body], group: &Group, y: usize) -> Result<Exact, Failure>
-    ensures { IsAnswer result (part_where_defined (rows model.now) (group_of group.now) y) }
+    ensures { IsAnswer result (part_where_defined nat_eq (rows model.now) (group_of group.now) y) }
 {
     let _value = value(model, y)?;
     match part(model, group, y) {
@@ -122,20 +122,18 @@ fn part(model: &[Body], group: &Group, y: usize) -> Option<Exact>
             variance,
             inverse_degrees: _,
         } => weighted(model, y, y, *key, *key, *variance),
-        Group::Correlated {
+        Group::Pair {
             first,
             second,
-            correlation,
-            first_deviation,
-            second_deviation,
+            first_variance,
+            second_variance,
+            covariance,
+            inverse_degrees: _,
         } => {
-            let a = *first_deviation;
-            let b = *second_deviation;
-            let both = correlation.times(a.times(b)?)?;
-            let own = weighted(model, y, y, *first, *first, a.times(a)?)?;
-            let own = own.plus(weighted(model, y, y, *second, *second, b.times(b)?)?)?;
-            let shared = weighted(model, y, y, *first, *second, both)?;
-            own.plus(shared.plus(weighted(model, y, y, *second, *first, both)?)?)
+            let own = weighted(model, y, y, *first, *first, *first_variance)?;
+            let own = own.plus(weighted(model, y, y, *second, *second, *second_variance)?)?;
+            let shared = weighted(model, y, y, *first, *second, *covariance)?;
+            own.plus(shared.plus(weighted(model, y, y, *second, *first, *covariance)?)?)
         }
         Group::Joint(table) => table_part(model, table, y),
     }

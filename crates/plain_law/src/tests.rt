@@ -100,12 +100,13 @@ fn full_correlation_cancels(rt: HostRuntime) -> Result<(), Fail> {
     model.push(input(1, 1)?)?;
     model.push(input(2, 1)?)?;
     model.push(Body::Formula(sum(alloc, Expression::Key(0), Expression::Key(1))?))?;
-    let pair = Group::Correlated {
+    let pair = Group::Pair {
         first: 0,
         second: 1,
-        correlation: Exact::whole(-1),
-        first_deviation: Exact::whole(1),
-        second_deviation: Exact::whole(1),
+        first_variance: Exact::whole(1),
+        second_variance: Exact::whole(1),
+        covariance: Exact::whole(-1),
+        inverse_degrees: Exact::whole(0),
     };
     let mut groups = Vec::new(alloc);
     groups.push(pair)?;

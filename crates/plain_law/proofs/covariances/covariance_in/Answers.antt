@@ -12,25 +12,15 @@ unfolding covariance_in
 returns-in-Own c =
     IfSome_then c.cell.result c.cell.ensures (λ r e. e ∙ sym (ap (λ g. covariance_in nat_eq (group_of g) c.args.i c.args.j) c.in-Own.is))
 
-pub returns-in_ok-plus-in-Correlated : goal.returns-in_ok-plus-in-Correlated
+pub returns-in_ok-plus-in-Pair : goal.returns-in_ok-plus-in-Pair
 unfolding covariance_in
-returns-in_ok-plus-in-Correlated c =
-    let k = c.in-Correlated.first in
-    let m = c.in-Correlated.second in
-    let r = number c.in-Correlated.correlation in
-    let i = c.args.i in
-    let j = c.args.j in
-    let both = c.in_ok-both-in-Correlated.ensures ∙ ap (λ x. r *ℚ x) c.in_ok-times-in-Correlated.ensures in
-    IfSome_then c.plus-in-Correlated-2.result c.plus-in-Correlated-2.ensures
+returns-in_ok-plus-in-Pair c =
+    IfSome_then c.plus-in-Pair-2.result c.plus-in-Pair-2.ensures
     (λ x e. e
     ∙ ap₂ ◌+ℚ◌
-    (c.in_ok-own-in-Correlated-2.ensures
-    ∙ ap₂ ◌+ℚ◌ (c.in_ok-own-in-Correlated.ensures ∙ ap (λ t. cell nat_eq k k t i j) c.in_ok-times-in-Correlated-2.ensures)
-    (c.in_ok-cell-in-Correlated.ensures ∙ ap (λ t. cell nat_eq m m t i j) c.in_ok-times-in-Correlated-3.ensures))
-    (c.in_ok-plus-in-Correlated.ensures
-    ∙ ap₂ ◌+ℚ◌ (c.in_ok-shared-in-Correlated.ensures ∙ ap (λ t. cell nat_eq k m t i j) both)
-    (c.in_ok-cell-in-Correlated-2.ensures ∙ ap (λ t. cell nat_eq m k t i j) both))
-    ∙ sym (ap (λ g. covariance_in nat_eq (group_of g) i j) c.in-Correlated.is))
+    (c.in_ok-own-in-Pair-2.ensures ∙ ap₂ ◌+ℚ◌ c.in_ok-own-in-Pair.ensures c.in_ok-cell-in-Pair.ensures)
+    (c.in_ok-plus-in-Pair.ensures ∙ ap₂ ◌+ℚ◌ c.in_ok-shared-in-Pair.ensures c.in_ok-cell-in-Pair-2.ensures)
+    ∙ sym (ap (λ g. covariance_in nat_eq (group_of g) c.args.i c.args.j) c.in-Pair.is))
 
 pub returns-in-Joint : goal.returns-in-Joint
 unfolding covariance_in
