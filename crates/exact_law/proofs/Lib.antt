@@ -1,4 +1,5 @@
 pub mod Tests
+pub mod Lists
 pub mod Chain
 pub mod Rows
 pub mod ChainRule

@@ -8,15 +8,16 @@
 //! equality.
 #![tactic(auto)]
 
-ghost use Rattle.std.specs.Prelude.{◌≡◌, ◌↔◌, ◌⊎◌, ℕ, ◌≤◌, ℤ, ◌-ℤ◌, pos, Bool, true, false, Some, None, List, nat_eq};
+mod worked;
+
+ghost use Rattle.std.specs.Prelude.{◌≡◌, ◌↔◌, ◌⊎◌, ℕ, ◌≤◌, ℤ, ◌-ℤ◌, pos, Bool, true, false, Some, None, List};
 ghost use Rattle.exact_fraction.specs.Number.{ℚ, of_ℤ, ◌*ℚ◌, inv_ℚ, ◌≤ℚ◌, floor_ℚ, ◌<ℚ◌};
 ghost use Rattle.exact_fraction.specs.Sums.{total};
 ghost use Rattle.exact_law.specs.Model.{Expression, Input, Formula, Row, IsSameTest, body_of, exact_value, exact_slope, has_value, unit, sweep, IsBackward, keys, once, IsOrderOf, IsByRow, IsCyclic};
 ghost use Rattle.exact_law.specs.Law.{Group, inputs_of, covariance, law, part_of, IsSound, IsSoundFor, AllGroups};
-ghost use Rattle.exact_law.specs.Degrees.{NoDegrees, InfiniteDegrees, FiniteDegrees, degrees_of, inverse_degrees, share_of, counts, Level, factor};
+ghost use Rattle.exact_law.specs.Degrees.{InfiniteDegrees, FiniteDegrees, degrees_of, inverse_degrees, share_of, counts, Level, factor};
 ghost use Rattle.exact_law.specs.Rounding.{at_place, IsTwoDigits, IsNearest, IsHundredths};
 ghost use Rattle.exact_law.specs.WrittenRule.{Form, Statement, Ends, IsWithin, Span, AllWithin, Agrees, is_guarded, is_inside, is_near, all_of, guarded_over, inside_over, near_over, all_over, Stated, decision, stated_at};
-ghost use Rattle.exact_law.specs.WorkedRows.{cancel, cancel_groups, two_degrees, two_degrees_groups, fully_correlated, fully_correlated_groups};
 ghost use Rattle.exact_law.specs.Renaming.{KeepsApart, renamed_rows, renamed_groups};
 
 /// Sharing changes nothing: in an order of rows of the model, the value of a formula row, whether it is
@@ -147,16 +148,4 @@ pub fn renaming_changes_nothing<K, L>()
         → (model : List (Row K)) (groups : List (Group K)) (y z : K)
         → law same' (renamed_rows rename model) (renamed_groups rename groups) (rename y) (rename z)
         ≡ law same model groups y z }
-{}
-
-/// The definitions at small models: three uses of one input that cancel leave no variance, two equal
-/// inputs with 5 degrees of freedom each have 10 together, and of two inputs with the correlation
-/// coefficient -1 the sum has no variance and no degrees of freedom.
-pub fn worked_rows()
-    ensures cancel_value { exact_value nat_eq cancel 3 ≡ of_ℤ (pos 0) }
-    ensures cancel_slope { exact_slope nat_eq cancel 2 0 ≡ of_ℤ (pos 3) }
-    ensures cancel_variance { law nat_eq cancel cancel_groups 3 3 ≡ of_ℤ (pos 0) }
-    ensures two_degrees { degrees_of nat_eq two_degrees two_degrees_groups 2 ≡ FiniteDegrees (of_ℤ (pos 10)) }
-    ensures fully_correlated { law nat_eq fully_correlated fully_correlated_groups 2 2 ≡ of_ℤ (pos 0) }
-    ensures no_degrees { degrees_of nat_eq fully_correlated fully_correlated_groups 2 ≡ NoDegrees }
 {}
