@@ -182,3 +182,13 @@ gradient same law model rows m o y y1 a b i q h =
 pub sweep-backward : {K : Type 0} (same : K → K → Bool) → IsSameTest same → (v : K → ℚ) (rows : List (Row K)) (y : K)
     → is_order same rows ≡ true → IsBackward same v (sweep same v rows (λ n. unit same n y)) y rows
 sweep-backward same law v rows y o = record { equation = sweep-brought same law v rows (λ n. unit same n y) o }
+
+-- an input that has no row in the order moves nothing
+pub outside_cone : {K : Type 0} (same : K → K → Bool) → IsSameTest same → (model rows : List (Row K))
+    → AreOf same model rows → is_order same rows ≡ true → (y : K) → once same y (keys rows) ≡ true
+    → (i : K) (q : ℚ) → body_of same model i ≡ Some (Input q) → once same i (keys rows) ≡ false
+    → exact_slope same model y i ≡ of_ℤ (pos 0)
+outside_cone same law model rows m o y y1 i q h e =
+    forward_backward same law (exact_value same model) (sweep same (exact_value same model) rows (λ n. unit same n y)) (λ n. exact_slope same model n i) y i rows
+    (forward same law model rows m o i q h) (sweep-backward same law (exact_value same model) rows y o) y1
+    ∙ along-absent same (sweep same (exact_value same model) rows (λ n. unit same n y)) i (keys rows) (once_or_absent same law i rows o e)

@@ -17,7 +17,7 @@ use Rattle.exact_fraction.proofs.Signs.{whole-not_negative, times-≤ℚ}
 use Rattle.exact_law.proofs.RoundingLaws.{next_square, scaled_square-not_negative}
 
 -- ---- the first of rising bounds that is above x
-find : (f : ℕ → ℚ) (x : ℚ) (n : ℕ) → f 0 ≤ℚ x → x <ℚ f n → (k : ℕ) × (suc k ≤ n) × (f k ≤ℚ x) × (x <ℚ f (suc k))
+pub find : (f : ℕ → ℚ) (x : ℚ) (n : ℕ) → f 0 ≤ℚ x → x <ℚ f n → (k : ℕ) × (suc k ≤ n) × (f k ≤ℚ x) × (x <ℚ f (suc k))
 find f x zero h b = absurd (below_not x (f 0) b h)
 find f x (suc n) h b = by (below_or_not x (f n)) (find f x n h) where
   by : (x <ℚ f n) ⊎ (f n ≤ℚ x) → (x <ℚ f n → (k : ℕ) × (suc k ≤ n) × (f k ≤ℚ x) × (x <ℚ f (suc k)))
@@ -26,7 +26,7 @@ find f x (suc n) h b = by (below_or_not x (f n)) (find f x n h) where
   by (inr l) ih = (n, omega arith, l, b)
 
 -- ---- a whole number that is at least x
-whole_above : (x : ℚ) → (n : ℕ) × (x ≤ℚ of_ℤ (pos n))
+pub whole_above : (x : ℚ) → (n : ℕ) × (x ≤ℚ of_ℤ (pos n))
 whole_above x = by (floor_ℚ x +ℤ pos 1) refl where
   above : x ≤ℚ of_ℤ (floor_ℚ x +ℤ pos 1)
   above = by_total (≤ℚ_total x (of_ℤ (floor_ℚ x +ℤ pos 1))) where

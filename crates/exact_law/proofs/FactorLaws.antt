@@ -1,6 +1,6 @@
 -- The factor of Table G.2 falls as the degrees of freedom grow.
-use Rattle.std.specs.Prelude.{◌≡◌, ℕ, ◌≤◌, Bool, true, false, cond, ◌&&◌, nat_le, List, [], ◌∷◌, pos, refl}
-use Rattle.std.proofs.Common.{sym, ◌∙◌, arith}
+use Rattle.std.specs.Prelude.{◌≡◌, ℕ, ◌≤◌, ◌≤ℤ◌, Bool, true, false, cond, ◌&&◌, nat_le, List, [], ◌∷◌, pos, refl}
+use Rattle.std.proofs.Common.{sym, ◌∙◌, ap, arith}
 use Rattle.std.proofs.lemmas.Bool.{true≢false}
 use Rattle.std.proofs.lemmas.Int.{ints}
 use Rattle.std.proofs.lemmas.Bool.Decides.{nat_tests}
@@ -96,3 +96,25 @@ unfolding factor row_of
 factor-infinite level x =
     factor_in-≤ level infinite_row (row_at x first_row later_rows)
     (row_at-low (thousandths level infinite_row) level x first_row later_rows (table-falls level))
+
+-- ---- from 100 on
+none_above : ℕ → List Factors → Bool
+none_above n [] = true
+none_above n (g ∷ gs) = nat_le g.degrees n && none_above n gs
+
+row_at-above : (n : ℕ) (x : ℚ) (f : Factors) (gs : List Factors) → none_above n gs ≡ true → of_ℤ (pos n) ≤ℚ x → row_at x f gs ≡ row_at (of_ℤ (pos n)) f gs
+unfolding row_at none_above
+row_at-above n x f [] h l = refl
+row_at-above n x f (g ∷ gs) h l =
+    let d : of_ℤ (pos g.degrees) ≤ℚ of_ℤ (pos n) = of_ℤ-≤ℚ (pos g.degrees) (pos n) (at_most (le_of g.degrees n (and_left _ _ h))) in
+    rw ((≤ℚ_trans _ _ _ d l).holds, d.holds) (row_at-above n x g gs (and_right _ _ h) l) where
+      at_most : {a b : ℕ} → a ≤ b → pos a ≤ℤ pos b
+      at_most k = omega (arith, ints)
+
+table-none_above : none_above 100 later_rows ≡ true
+unfolding none_above later_rows row
+table-none_above = refl
+
+pub factor-from_100 : (level : Level) (x : ℚ) → of_ℤ (pos 100) ≤ℚ x → factor level (FiniteDegrees x) ≡ factor level (FiniteDegrees (of_ℤ (pos 100)))
+unfolding factor row_of
+factor-from_100 level x l = ap (factor_in level) (row_at-above 100 x first_row later_rows table-none_above l)

@@ -12,4 +12,5 @@ pub mod RuleLaws
 pub mod FactorLaws
 pub mod RoundingLaws
 pub mod Digits
+pub mod Hundredths
 pub mod Nearest

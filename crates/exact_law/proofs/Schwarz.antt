@@ -6,7 +6,7 @@ use Rattle.exact_fraction.specs.Number.{ℚ, of_ℤ, ◌+ℚ◌, ◌*ℚ◌, ◌
 use Rattle.exact_fraction.specs.NumberLaws.{≤ℚ_refl}
 use Rattle.exact_fraction.proofs.Quotients.{is_zero_ℚ-≡}
 use Rattle.exact_fraction.proofs.OrderLaws.{≤ℚ_right, ≤ℚ_by, ≤ℚ_cancel, +ℚ-not_negative, *ℚ-not_negative, square-not_negative}
-use Rattle.exact_fraction.proofs.Ring.{Var, Whole, ◌:+◌, ◌:*◌, Minus, x0, x1, x2, x3, x4, x5, ring}
+use Rattle.exact_fraction.proofs.Ring.{Var, Whole, ◌:+◌, ◌:-◌, ◌:*◌, Minus, x0, x1, x2, x3, x4, x5, ring}
 use Rattle.exact_fraction.specs.Sums.{total, below}
 use Rattle.exact_law.specs.Model.{IsSameTest}
 use Rattle.exact_law.specs.Law.{Group, Own, Pair, Joint, joint, covariance, law_of, part, AllGroups, IsSoundFor}
@@ -147,3 +147,18 @@ law_schwarz same law inputs groups u w h =
     discriminant _ _ _
     (λ s t. not_negative-same _ _ (law_of-form same law inputs groups u w h s t)
     (law-not_negative same law inputs groups (λ i. (s *ℚ u i) +ℚ (t *ℚ w i)) h))
+
+-- the variance of k u - m w
+pub law_difference : {K : Type 0} (same : K → K → Bool) → IsSameTest same → (inputs : List K) (groups : List (Group K)) (u w : K → ℚ) (k m : ℚ)
+    → AllGroups (IsSoundFor same inputs) groups
+    → of_ℤ (pos 0)
+    ≤ℚ ((k *ℚ k *ℚ law_of (covariance same groups) inputs u u) +ℚ (m *ℚ m *ℚ law_of (covariance same groups) inputs w w))
+    -ℚ (of_ℤ (pos 2) *ℚ (k *ℚ m *ℚ law_of (covariance same groups) inputs u w))
+law_difference same law inputs groups u w k m h =
+    not_negative-same _
+    (form (law_of (covariance same groups) inputs u u) (law_of (covariance same groups) inputs u w) (law_of (covariance same groups) inputs w w) k (neg_ℚ m))
+    (ring (k ∷ m ∷ law_of (covariance same groups) inputs u u ∷ law_of (covariance same groups) inputs u w ∷ law_of (covariance same groups) inputs w w ∷ [])
+    (((x0 :* x0 :* x2) :+ (x1 :* x1 :* x4)) :- (Whole (pos 2) :* (x0 :* x1 :* x3)))
+    (((x0 :* x0 :* x2) :+ (Whole (pos 2) :* (x0 :* Minus x1 :* x3))) :+ (Minus x1 :* Minus x1 :* x4)) refl)
+    (not_negative-same _ _ (law_of-form same law inputs groups u w h k (neg_ℚ m))
+    (law-not_negative same law inputs groups (λ i. (k *ℚ u i) +ℚ (neg_ℚ m *ℚ w i)) h))

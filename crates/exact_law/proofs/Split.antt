@@ -9,7 +9,7 @@ use Rattle.exact_fraction.proofs.OrderLaws.{≤ℚ_right, ≤ℚ_by, ≤ℚ_canc
 use Rattle.exact_fraction.proofs.Ring.{Whole, ◌:+◌, ◌:-◌, ◌:*◌, Minus, x0, x1, x2, x3, x4, x5, ring}
 use Rattle.exact_fraction.specs.Sums.{total, below}
 use Rattle.exact_law.specs.Model.{IsSameTest, unit, once}
-use Rattle.exact_law.specs.Law.{Column, Group, Own, Pair, Joint, joint, cell, covariance_in, covariance, law_of, part, IsSound, members, stand_in, AllGroups, IsSoundFor}
+use Rattle.exact_law.specs.Law.{Column, Group, Own, Pair, Joint, declared_pair, joint, cell, covariance_in, covariance, law_of, part, IsSound, members, stand_in, AllGroups, IsSoundFor}
 use Rattle.exact_fraction.proofs.SumLaws.{total-same, total-zero, total-plus, total-times, total-times_right, total-swap}
 use Rattle.exact_law.proofs.Tests.{and_left, and_right}
 use Rattle.exact_law.proofs.Chain.{along-once}
@@ -263,3 +263,18 @@ part-not_negative (Pair k m v w c d) u h = form-not_negative v w c (u k) (u m) h
 part-not_negative (Joint n columns) u h =
     not_negative-same _ _ (part-joint n columns u)
     (*ℚ-not_negative _ _ (scale-not_negative n) (spread-not_negative (joined columns u) n))
+
+-- ---- a declared correlation coefficient
+pub declared_sound : {K : Type 0} (k m : K) (r a b : ℚ) → neg_ℚ (of_ℤ (pos 1)) ≤ℚ r → r ≤ℚ of_ℤ (pos 1) → IsSound (declared_pair k m r a b)
+unfolding IsSound
+declared_sound k m r a b low high = (
+  square-not_negative a,
+  square-not_negative b,
+  ≤ℚ_by ((r *ℚ (a *ℚ b)) *ℚ (r *ℚ (a *ℚ b))) ((a *ℚ a) *ℚ (b *ℚ b))
+      (((of_ℤ (pos 1) -ℚ r) *ℚ (r -ℚ neg_ℚ (of_ℤ (pos 1)))) *ℚ ((a *ℚ b) *ℚ (a *ℚ b)))
+      (ring (r ∷ a ∷ b ∷ [])
+      (((x0 :* (x1 :* x2)) :* (x0 :* (x1 :* x2))) :+ (((Whole (pos 1) :- x0) :* (x0 :- Minus (Whole (pos 1)))) :* ((x1 :* x2) :* (x1 :* x2))))
+      ((x1 :* x1) :* (x2 :* x2)) refl)
+      (*ℚ-not_negative _ _ (*ℚ-not_negative _ _ (≤ℚ-difference r _ high) (≤ℚ-difference _ r low)) (square-not_negative (a *ℚ b))),
+  ≤ℚ_refl _,
+)

@@ -11,12 +11,12 @@
 mod worked;
 
 ghost use Rattle.std.specs.Prelude.{◌≡◌, ◌↔◌, ◌⊎◌, ℕ, ◌≤◌, ℤ, ◌-ℤ◌, pos, Bool, true, false, Some, None, List};
-ghost use Rattle.exact_fraction.specs.Number.{ℚ, of_ℤ, ◌*ℚ◌, inv_ℚ, ◌≤ℚ◌, floor_ℚ, ◌<ℚ◌};
+ghost use Rattle.exact_fraction.specs.Number.{ℚ, of_ℤ, ◌+ℚ◌, ◌-ℚ◌, ◌*ℚ◌, neg_ℚ, inv_ℚ, ◌≤ℚ◌, floor_ℚ, ◌<ℚ◌};
 ghost use Rattle.exact_fraction.specs.Sums.{total};
 ghost use Rattle.exact_law.specs.Model.{Expression, Input, Formula, Row, IsSameTest, body_of, exact_value, exact_slope, has_value, unit, sweep, IsBackward, keys, once, IsOrderOf, IsByRow, IsCyclic};
-ghost use Rattle.exact_law.specs.Law.{Group, inputs_of, covariance, law, part_of, IsSound, IsSoundFor, AllGroups};
+ghost use Rattle.exact_law.specs.Law.{Group, declared_pair, inputs_of, covariance, law, part, part_of, IsSound, IsSoundFor, AllGroups};
 ghost use Rattle.exact_law.specs.Degrees.{InfiniteDegrees, FiniteDegrees, degrees_of, inverse_degrees, share_of, counts, Level, factor};
-ghost use Rattle.exact_law.specs.Rounding.{at_place, IsTwoDigits, IsNearest, IsHundredths};
+ghost use Rattle.exact_law.specs.Rounding.{at_place, IsTwoDigits, IsNearest, IsHundredths, IsCorrelation};
 ghost use Rattle.exact_law.specs.WrittenRule.{Form, Statement, Ends, IsWithin, Span, AllWithin, Agrees, is_guarded, is_inside, is_near, all_of, guarded_over, inside_over, near_over, all_over, Stated, decision, stated_at};
 ghost use Rattle.exact_law.specs.Renaming.{KeepsApart, renamed_rows, renamed_groups};
 
@@ -57,14 +57,19 @@ pub fn sweep_gives_the_derivatives<K>()
         → exact_slope same model y i ≡ a i }
 {}
 
-/// The variance of a quantity is the sum of the groups' parts, and neither a part nor a variance is
-/// negative. The covariance of two quantities does not depend on their order, and its square is at most
-/// the product of their variances. A group must be sound: no variance negative, a declared correlation
-/// from -1 to 1; of a table nothing is asked.
+/// The variance of a quantity, and the covariance of two, is the sum of the groups' parts, and neither a
+/// part nor a variance is negative, nor that of `k y - m z` for any two numbers `k` and `m`. The covariance
+/// of two quantities does not depend on their order, and its square is at most the product of their
+/// variances. A group must be sound: no variance and no 1/ν negative, and the square of a pair's covariance
+/// at most the product of its variances, as it is for a declared correlation coefficient from -1 to 1; of a
+/// table nothing is asked.
 pub fn law_is_the_sum_of_its_parts<K>()
     ensures sum { (same : K → K → Bool) → IsSameTest same → (model : List (Row K)) (groups : List (Group K))
         → AllGroups (IsSoundFor same (inputs_of model)) groups
         → (y : K) → law same model groups y y ≡ total (λ g. part_of same model g y) groups }
+    ensures of_two { (same : K → K → Bool) → IsSameTest same → (model : List (Row K)) (groups : List (Group K))
+        → AllGroups (IsSoundFor same (inputs_of model)) groups
+        → (y z : K) → law same model groups y z ≡ total (λ g. part g (exact_slope same model y) (exact_slope same model z)) groups }
     ensures part_not_negative { (same : K → K → Bool) (model : List (Row K)) (g : Group K) → IsSound g
         → (y : K) → of_ℤ (pos 0) ≤ℚ part_of same model g y }
     ensures not_negative { (same : K → K → Bool) → IsSameTest same → (model : List (Row K)) (groups : List (Group K))
@@ -77,6 +82,21 @@ pub fn law_is_the_sum_of_its_parts<K>()
         → AllGroups (IsSoundFor same (inputs_of model)) groups
         → (y z : K) → law same model groups y z *ℚ law same model groups y z
         ≤ℚ law same model groups y y *ℚ law same model groups z z }
+    ensures difference_not_negative { (same : K → K → Bool) → IsSameTest same → (model : List (Row K)) (groups : List (Group K))
+        → AllGroups (IsSoundFor same (inputs_of model)) groups
+        → (y z : K) (k m : ℚ)
+        → of_ℤ (pos 0)
+        ≤ℚ (k *ℚ k *ℚ law same model groups y y +ℚ m *ℚ m *ℚ law same model groups z z) -ℚ of_ℤ (pos 2) *ℚ (k *ℚ m *ℚ law same model groups y z) }
+    ensures declared_pair { (k m : K) (r a b : ℚ) → neg_ℚ (of_ℤ (pos 1)) ≤ℚ r → r ≤ℚ of_ℤ (pos 1) → IsSound (declared_pair k m r a b) }
+{}
+
+/// A quantity does not depend on an input that is outside its cone: in an order of rows of the model that
+/// holds `y`, the sensitivity to an input that has no row there is 0.
+pub fn inputs_outside_the_cone_have_no_share<K>()
+    ensures { (same : K → K → Bool) → IsSameTest same → (model rows : List (Row K)) → IsOrderOf same model rows
+        → (y : K) → once same y (keys rows) ≡ true
+        → (i : K) (q : ℚ) → body_of same model i ≡ Some (Input q) → once same i (keys rows) ≡ false
+        → exact_slope same model y i ≡ of_ℤ (pos 0) }
 {}
 
 /// Finite effective degrees of freedom are at least any bound `m` that is at most the degrees of each
@@ -101,18 +121,24 @@ pub fn what_the_ends_round_to_all_between_do()
 
 /// A number above 0 has two digits, and in one way; they are those of the two steps 'the place where the
 /// root has two digits, and there the nearest whole number, with 100 as 10 at the next place'. A number
-/// has hundredths in one way at most.
+/// that is not negative has hundredths, and in one way. A correlation coefficient is one of two variances
+/// above 0, and has hundredths in one way.
 pub fn digits_are_there_once()
     ensures two_digits { (v : ℚ) → of_ℤ (pos 0) <ℚ v → (m : ℕ) × ((e : ℤ) × IsTwoDigits v m e) }
     ensures one_pair { (v : ℚ) (m n : ℕ) (e f : ℤ) → IsTwoDigits v m e → IsTwoDigits v n f → (m ≡ n) × (e ≡ f) }
     ensures two_steps { (v : ℚ) (m : ℕ) (e : ℤ) → IsTwoDigits v m e
         ↔ ((IsNearest v m e × (m ≤ 99)) ⊎ ((m ≡ 10) × IsNearest v 100 (e -ℤ pos 1))) }
-    ensures hundredths { (x : ℚ) (m n : ℕ) → IsHundredths x m → IsHundredths x n → m ≡ n }
+    ensures hundredths { (x : ℚ) → of_ℤ (pos 0) ≤ℚ x → (m : ℕ) × IsHundredths x m }
+    ensures one_hundredths { (x : ℚ) (m n : ℕ) → IsHundredths x m → IsHundredths x n → m ≡ n }
+    ensures of_variances { (c v w : ℚ) (d : ℤ) → IsCorrelation c v w d → (of_ℤ (pos 0) <ℚ v) × (of_ℤ (pos 0) <ℚ w) }
+    ensures one_correlation { (c v w : ℚ) (d e : ℤ) → IsCorrelation c v w d → IsCorrelation c v w e → d ≡ e }
 {}
 
-/// The factor of Table G.2 falls as the degrees of freedom grow, and is least for infinite ones.
+/// The factor of Table G.2 falls as the degrees of freedom grow, is the same for all finite ones from 100
+/// on, and is least for infinite ones.
 pub fn factor_falls_as_degrees_grow()
     ensures falls { (level : Level) (x y : ℚ) → x ≤ℚ y → factor level (FiniteDegrees y) ≤ℚ factor level (FiniteDegrees x) }
+    ensures from_100 { (level : Level) (x : ℚ) → of_ℤ (pos 100) ≤ℚ x → factor level (FiniteDegrees x) ≡ factor level (FiniteDegrees (of_ℤ (pos 100))) }
     ensures least { (level : Level) (x : ℚ) → factor level InfiniteDegrees ≤ℚ factor level (FiniteDegrees x) }
 {}
 
