@@ -1,5 +1,5 @@
 -- Lemmas on sums over lists.
-use Rattle.std.specs.Prelude.{◌≡◌, ℕ, suc, ◌+◌, ◌<◌, ◌≤◌, List, [], ◌∷◌, length, map, pos, refl}
+use Rattle.std.specs.Prelude.{◌≡◌, ℕ, suc, ◌+◌, ◌<◌, ◌≤◌, List, [], ◌∷◌, ◌++◌, length, map, pos, refl}
 use Rattle.std.proofs.Common.{sym, ◌∙◌, ap, arith, drop}
 use Rattle.std.proofs.lemmas.List.{drop_more, drop_all}
 use Rattle.std.proofs.Math.ListN.{get_or}
@@ -36,6 +36,13 @@ total-times_right f k [] = ring (k ∷ []) (Whole (pos 0)) (Whole (pos 0) :* x0)
 total-times_right f k (x ∷ xs) =
     ap (λ t. (f x *ℚ k) +ℚ t) (total-times_right f k xs)
     ∙ ring (k ∷ f x ∷ total f xs ∷ []) (x1 :* x0 :+ x2 :* x0) ((x1 :+ x2) :* x0) refl
+
+pub total-append : {A : Type 0} (f : A → ℚ) (xs ys : List A) → total f (xs ++ ys) ≡ total f xs +ℚ total f ys
+unfolding total
+total-append f [] ys = ring (total f ys ∷ []) x0 (Whole (pos 0) :+ x0) refl
+total-append f (x ∷ xs) ys =
+    ap (λ t. f x +ℚ t) (total-append f xs ys)
+    ∙ ring (f x ∷ total f xs ∷ total f ys ∷ []) (x0 :+ (x1 :+ x2)) ((x0 :+ x1) :+ x2) refl
 
 -- a double sum in either order
 pub total-swap : {A B : Type 0} (f : A → B → ℚ) (xs : List A) (ys : List B)

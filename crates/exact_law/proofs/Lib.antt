@@ -13,4 +13,6 @@ pub mod FactorLaws
 pub mod RoundingLaws
 pub mod Digits
 pub mod Hundredths
+pub mod DigitLaws
+pub mod Parting
 pub mod Nearest

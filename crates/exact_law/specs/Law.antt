@@ -1,10 +1,10 @@
 -- The law of propagation of uncertainty (JCGM 100:2008, 5.1.2, 5.2.2, H.2): a double sum over the
 -- inputs, of two sensitivities and the covariance of the two inputs. Covariances come from groups of
 -- inputs, and the law is the sum of the groups' parts.
-use Rattle.std.specs.Prelude.{◌≡◌, ℕ, ◌-◌, Bool, true, cond, ◌&&◌, Option, Some, None, List, [], ◌∷◌, map, pos}
+use Rattle.std.specs.Prelude.{◌≡◌, ℕ, ◌-◌, Bool, true, cond, ◌&&◌, Option, Some, None, List, [], ◌∷◌, ◌++◌, map, pos}
 use Rattle.exact_fraction.specs.Number.{ℚ, of_ℤ, ◌+ℚ◌, ◌*ℚ◌, ◌/ℚ◌, ◌≤ℚ◌, ◌-ℚ◌}
 use Rattle.exact_fraction.specs.Sums.{total, below}
-use Rattle.exact_law.specs.Model.{Row, Body, Input, Formula, once, unit, exact_slope, has_value}
+use Rattle.exact_law.specs.Model.{Row, Body, Input, Formula, absent, once, unit, exact_slope, has_value}
 
 -- a column of a table of joint readings: its quantity, and what its record t reads
 pub record Column (K : Type 0) : Type 0 where
@@ -116,3 +116,22 @@ AllGroups P (g ∷ gs) = P g × AllGroups P gs
 pub record IsSoundFor {K : Type 0} (same : K → K → Bool) (inputs : List K) (g : Group K) : Type 0 where
   pub sound : IsSound g
   pub in_inputs : stand_in same inputs (members g) ≡ true
+
+-- the members of all groups
+unfoldable pub all_members : {K : Type 0} → List (Group K) → List K
+all_members [] = []
+all_members (g ∷ gs) = members g ++ all_members gs
+
+-- the groups part the inputs: each input is a member of one group and stands once there, and each member
+-- is an input
+pub record PartTheInputs {K : Type 0} (same : K → K → Bool) (inputs : List K) (groups : List (Group K)) : Type 0 where
+  pub inputs_in_groups : stand_in same (all_members groups) inputs ≡ true
+  pub members_in_inputs : stand_in same inputs (all_members groups) ≡ true
+
+-- the column is one of a table, whose other columns have other keys
+pub record OnceAmong {K : Type 0} (same : K → K → Bool) (a : Column K) (columns : List (Column K)) : Type 0 where
+  pub before : List (Column K)
+  pub after : List (Column K)
+  pub is_one : columns ≡ before ++ a ∷ after
+  pub absent_before : absent same a.key (map (λ b. b.key) before) ≡ true
+  pub absent_after : absent same a.key (map (λ b. b.key) after) ≡ true

@@ -10,13 +10,13 @@
 
 mod worked;
 
-ghost use Rattle.std.specs.Prelude.{◌≡◌, ◌↔◌, ◌⊎◌, ℕ, ◌≤◌, ℤ, ◌-ℤ◌, pos, Bool, true, false, Some, None, List};
+ghost use Rattle.std.specs.Prelude.{◌≡◌, ◌↔◌, ◌⊎◌, ℕ, ◌≤◌, ℤ, ◌-ℤ◌, pos, Bool, true, false, Some, None, List, ◌∷◌, ◌++◌};
 ghost use Rattle.exact_fraction.specs.Number.{ℚ, of_ℤ, ◌+ℚ◌, ◌-ℚ◌, ◌*ℚ◌, neg_ℚ, inv_ℚ, ◌≤ℚ◌, floor_ℚ, ◌<ℚ◌};
 ghost use Rattle.exact_fraction.specs.Sums.{total};
-ghost use Rattle.exact_law.specs.Model.{Expression, Input, Formula, Row, IsSameTest, body_of, exact_value, exact_slope, has_value, unit, sweep, IsBackward, keys, once, IsOrderOf, IsByRow, IsCyclic};
-ghost use Rattle.exact_law.specs.Law.{Group, declared_pair, inputs_of, covariance, law, part, part_of, IsSound, IsSoundFor, AllGroups};
+ghost use Rattle.exact_law.specs.Model.{Expression, Input, Formula, Row, IsSameTest, body_of, exact_value, exact_slope, has_value, unit, sweep, IsBackward, keys, absent, once, IsOrderOf, IsByRow, IsCyclic};
+ghost use Rattle.exact_law.specs.Law.{Column, Group, Own, Pair, Joint, declared_pair, joint, inputs_of, covariance_in, covariance, law, part, part_of, members, IsSound, IsSoundFor, AllGroups, PartTheInputs, OnceAmong};
 ghost use Rattle.exact_law.specs.Degrees.{InfiniteDegrees, FiniteDegrees, degrees_of, inverse_degrees, share_of, counts, Level, factor};
-ghost use Rattle.exact_law.specs.Rounding.{at_place, IsTwoDigits, IsNearest, IsHundredths, IsCorrelation};
+ghost use Rattle.exact_law.specs.Rounding.{at_place, IsTwoDigits, IsNearest, Digits, AreDigitsOf, IsHundredths, IsCorrelation};
 ghost use Rattle.exact_law.specs.WrittenRule.{Form, Statement, Ends, IsWithin, Span, AllWithin, Agrees, is_guarded, is_inside, is_near, all_of, guarded_over, inside_over, near_over, all_over, Stated, decision, stated_at};
 ghost use Rattle.exact_law.specs.Renaming.{KeepsApart, renamed_rows, renamed_groups};
 
@@ -90,6 +90,25 @@ pub fn law_is_the_sum_of_its_parts<K>()
     ensures declared_pair { (k m : K) (r a b : ℚ) → neg_ℚ (of_ℤ (pos 1)) ≤ℚ r → r ≤ℚ of_ℤ (pos 1) → IsSound (declared_pair k m r a b) }
 {}
 
+/// Where the groups part the inputs, each input standing in one of them and once there, the covariance of
+/// two inputs is that which the group of one of them has for them, and 0 for inputs of two groups. Within
+/// a group of one input, of two or of a table it is the entry of the two.
+pub fn groups_that_part_the_inputs_have_the_covariances<K>()
+    ensures of_the_group { (same : K → K → Bool) → IsSameTest same → (inputs : List K) (before after : List (Group K)) (g : Group K)
+        → PartTheInputs same inputs (before ++ g ∷ after) → (i j : K) → once same i (members g) ≡ true
+        → covariance same (before ++ g ∷ after) i j ≡ covariance_in same g i j }
+    ensures between_groups { (same : K → K → Bool) → IsSameTest same → (inputs : List K) (before after : List (Group K)) (g : Group K)
+        → PartTheInputs same inputs (before ++ g ∷ after) → (i j : K) → once same i (members g) ≡ true → absent same j (members g) ≡ true
+        → covariance same (before ++ g ∷ after) i j ≡ of_ℤ (pos 0) }
+    ensures own { (same : K → K → Bool) → IsSameTest same → (k : K) (c d : ℚ) → covariance_in same (Own k c d) k k ≡ c }
+    ensures pair { (same : K → K → Bool) → IsSameTest same → (k m : K) (v w c d : ℚ) → same k m ≡ false
+        → (covariance_in same (Pair k m v w c d) k k ≡ v) × (covariance_in same (Pair k m v w c d) m m ≡ w)
+        × (covariance_in same (Pair k m v w c d) k m ≡ c) × (covariance_in same (Pair k m v w c d) m k ≡ c) }
+    ensures table { (same : K → K → Bool) → IsSameTest same → (n : ℕ) (columns : List (Column K)) (a b : Column K)
+        → OnceAmong same a columns → OnceAmong same b columns
+        → covariance_in same (Joint n columns) a.key b.key ≡ joint n a.reading b.reading }
+{}
+
 /// A quantity does not depend on an input that is outside its cone: in an order of rows of the model that
 /// holds `y`, the sensitivity to an input that has no row there is 0.
 pub fn inputs_outside_the_cone_have_no_share<K>()
@@ -119,13 +138,15 @@ pub fn what_the_ends_round_to_all_between_do()
     ensures hundredths { (x z y : ℚ) (m : ℕ) → x ≤ℚ z → z ≤ℚ y → IsHundredths x m → IsHundredths y m → IsHundredths z m }
 {}
 
-/// A number above 0 has two digits, and in one way; they are those of the two steps 'the place where the
+/// A number above 0 has two digits, and in one way, and 0 has none of them; they are those of the two steps 'the place where the
 /// root has two digits, and there the nearest whole number, with 100 as 10 at the next place'. A number
 /// that is not negative has hundredths, and in one way. A correlation coefficient is one of two variances
 /// above 0, and has hundredths in one way.
 pub fn digits_are_there_once()
     ensures two_digits { (v : ℚ) → of_ℤ (pos 0) <ℚ v → (m : ℕ) × ((e : ℤ) × IsTwoDigits v m e) }
     ensures one_pair { (v : ℚ) (m n : ℕ) (e f : ℤ) → IsTwoDigits v m e → IsTwoDigits v n f → (m ≡ n) × (e ≡ f) }
+    ensures digits { (v : ℚ) → of_ℤ (pos 0) ≤ℚ v → (d : Digits) × AreDigitsOf v d }
+    ensures one_digits { (v : ℚ) (d e : Digits) → AreDigitsOf v d → AreDigitsOf v e → d ≡ e }
     ensures two_steps { (v : ℚ) (m : ℕ) (e : ℤ) → IsTwoDigits v m e
         ↔ ((IsNearest v m e × (m ≤ 99)) ⊎ ((m ≡ 10) × IsNearest v 100 (e -ℤ pos 1))) }
     ensures hundredths { (x : ℚ) → of_ℤ (pos 0) ≤ℚ x → (m : ℕ) × IsHundredths x m }
