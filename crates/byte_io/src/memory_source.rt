@@ -105,6 +105,8 @@ impl Source for MemorySource {
             (⟦<MemorySource as Source>⟧.left self.new) result piece.new }
         ensures end { MeetsEnd (⟦<MemorySource as Source>⟧.ended self.old)
             (⟦<MemorySource as Source>⟧.ended self.new) result piece.new }
+        ensures end_stays { length piece.new ≡ 0
+            → ⟦<MemorySource as Source>⟧.ended self.new ≡ ⟦<MemorySource as Source>⟧.ended self.old }
         ensures faults { CountsFault (⟦<MemorySource as Source>⟧.faults self.old)
             (⟦<MemorySource as Source>⟧.faults self.new) result }
         ensures never_falls { ⟦<MemorySource as Source>⟧.faults self.old

@@ -1,4 +1,4 @@
-ghost use Rattle.std.specs.Prelude.{ℕ, Bool, List, Option, ◌≤◌, ◌<◌, ◌^◌};
+ghost use Rattle.std.specs.Prelude.{◌≡◌, ℕ, Bool, List, Option, length, ◌≤◌, ◌<◌, ◌^◌};
 ghost use Rattle.std.specs.Io.{ReadsAtMost};
 ghost use Rattle.std.specs.Io.KnownBytes.{WriteAppends, ReadConsumes};
 ghost use Rattle.byte_io.specs.Told.{SameTold};
@@ -25,8 +25,9 @@ pub trait Source {
     ghost faults: { Self → ℕ };
 
     /// Reads into the front of `piece` and answers how many bytes it gave, none for a piece that is
-    /// not empty exactly at the end. After [`Failed`] the source stands where it stood, but for its
-    /// count of faults. What stands behind the bytes given is not said.
+    /// not empty exactly at the end. A read into an empty piece leaves whether the end was met. After [`Failed`] the source
+    /// stands where it stood, but for its count of faults. What stands behind the bytes given is not
+    /// said.
     fn read(&mut self, piece: &mut [u8]) -> Result<usize, Failed>
         requires { count self.old ≤ 2 ^ 63 }
 
@@ -39,6 +40,7 @@ pub trait Source {
         ensures taken_told { SameTold (taken self.old) (taken self.new) }
         ensures left_told { SameTold (left self.old) (left self.new) }
         ensures end { MeetsEnd (ended self.old) (ended self.new) result piece.new }
+        ensures end_stays { length piece.new ≡ 0 → ended self.new ≡ ended self.old }
 
         // Failed only where the count of faults rose, which never falls.
         ensures cause { HasCause (faults self.old) (faults self.new) result }

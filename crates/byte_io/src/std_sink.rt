@@ -1,5 +1,6 @@
 ghost use Rattle.std.specs.Prelude.{◌≡◌, ◌≤◌, ◌<◌, ◌^◌, length, None, IfOk};
 ghost use Rattle.std.specs.Io.{WritesAtMost};
+ghost use Rattle.std.specs.Io.KnownBytes.{WriteAppends};
 ghost use Rattle.byte_io.specs.Faults.{CountsFault};
 
 use crate::{Failed, Sink};
@@ -35,6 +36,11 @@ impl<W: Write> Sink for StdSink<W> {
 
     /// Fails where the writer answers an error, or takes nothing of a piece that is not empty.
     fn write(&mut self, piece: &[u8]) -> Result<usize, Failed>
+        // What it takes, the writer took: where the writer's bytes are known, they grow by it, and by
+        // nothing at a failure.
+        ensures passed_on { WriteAppends (W.contents self.old.writer) (W.contents self.new.writer)
+            result piece.now }
+
         // What the trait says, with the faults counted.
         ensures bound { WritesAtMost result piece.now }
         ensures some { IfOk result (λ n. 0 < length piece.now → 0 < n) }

@@ -1,5 +1,6 @@
-ghost use Rattle.std.specs.Prelude.{◌≡◌, ◌≤◌, ◌<◌, ◌^◌, None, false};
+ghost use Rattle.std.specs.Prelude.{◌≡◌, ◌≤◌, ◌<◌, ◌^◌, length, None, false};
 ghost use Rattle.std.specs.Io.{ReadsAtMost};
+ghost use Rattle.std.specs.Io.KnownBytes.{ReadConsumes};
 ghost use Rattle.byte_io.specs.Faults.{CountsFault};
 ghost use Rattle.byte_io.specs.Source.{Counts, MeetsEnd};
 
@@ -51,12 +52,19 @@ impl<R: Read> Source for StdSource<R> {
     fn read(&mut self, piece: &mut [u8]) -> Result<usize, Failed>
         requires { ⟦<StdSource<R> as Source>⟧.count self.old ≤ 2 ^ 63 }
 
+        // What it gives, the reader gave: where the reader's bytes are known, they begin with it and
+        // lose it, and lose nothing at a failure.
+        ensures passed_on { ReadConsumes (R.remaining self.old.reader) (R.remaining self.new.reader)
+            result piece.new }
+
         // What the trait says, with the faults counted.
         ensures bound { ReadsAtMost result piece.new }
         ensures count { Counts (⟦<StdSource<R> as Source>⟧.count self.old)
             (⟦<StdSource<R> as Source>⟧.count self.new) result }
         ensures end { MeetsEnd (⟦<StdSource<R> as Source>⟧.ended self.old)
             (⟦<StdSource<R> as Source>⟧.ended self.new) result piece.new }
+        ensures end_stays { length piece.new ≡ 0
+            → ⟦<StdSource<R> as Source>⟧.ended self.new ≡ ⟦<StdSource<R> as Source>⟧.ended self.old }
         ensures faults { CountsFault (⟦<StdSource<R> as Source>⟧.faults self.old)
             (⟦<StdSource<R> as Source>⟧.faults self.new) result }
         ensures never_falls { ⟦<StdSource<R> as Source>⟧.faults self.old

@@ -42,6 +42,7 @@ impl SureSource {
         ensures left { drop self.old.at self.old.bytes.items
             ≡ take result piece.new ++ drop self.new.at self.new.bytes.items }
         ensures end { 0 < length piece.new → IsTrue self.new.ended ↔ (result ≡ 0) }
+        ensures end_stays { length piece.new ≡ 0 → self.new.ended ≡ self.old.ended }
     {
         let count = give(&self.bytes, self.at, most, piece);
         self.at += count;
@@ -79,6 +80,8 @@ impl Source for SureSource {
             (⟦<SureSource as Source>⟧.left self.new) result piece.new }
         ensures end { MeetsEnd (⟦<SureSource as Source>⟧.ended self.old)
             (⟦<SureSource as Source>⟧.ended self.new) result piece.new }
+        ensures end_stays { length piece.new ≡ 0
+            → ⟦<SureSource as Source>⟧.ended self.new ≡ ⟦<SureSource as Source>⟧.ended self.old }
     {
         Ok(self.read_at_most(usize::MAX, piece))
     }

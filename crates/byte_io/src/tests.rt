@@ -1,6 +1,6 @@
 //! A caller that knows its source and its sink by the traits alone, run at each kind of them.
 
-ghost use Rattle.std.specs.Prelude.{◌*◌, ◌≤◌, ◌^◌, ◌⊎◌, List, ℕ, length, IsTrue, OnOk, OnErr, IfOk};
+ghost use Rattle.std.specs.Prelude.{◌≡◌, ◌*◌, ◌≤◌, ◌^◌, ◌⊎◌, List, ℕ, length, IsTrue, OnOk, OnErr, IfOk};
 ghost use Rattle.byte_io.specs.Faults.{Rose, HasCause};
 ghost use Rattle.byte_io.specs.Source.{Took};
 ghost use Rattle.byte_io.specs.Sink.{HasRoom, Wrote, WrotePart};
@@ -48,6 +48,16 @@ fn copy<S: Source, K: Sink>(source: &mut S, sink: &mut K, turns: u32) -> Result<
         write_all(sink, &piece[..count])?;
     }
     Ok(false)
+}
+
+// Offers a source no room.
+fn read_nothing<S: Source>(source: &mut S) -> Result<usize, Failed>
+    requires { S.count source.old ≤ 2 ^ 62 }
+    ensures none { IfOk result (λ count. count ≡ 0) }
+    ensures count { S.count source.new ≡ S.count source.old }
+    ensures end { S.ended source.new ≡ S.ended source.old }
+{
+    source.read(&mut [])
 }
 
 #[test]
@@ -108,6 +118,24 @@ impl Read for FaultyReader {
     }
 }
 
+// A writer that takes at most three bytes of each piece.
+#[derive(Drop)]
+struct ShortWriter<'a> {
+    bytes: &'a mut Vec<u8>,
+}
+
+impl Write for ShortWriter<'_> {
+    fn write(&mut self, buf: &[u8]) -> io::Result<usize> {
+        let count = buf.len().min(3);
+        self.bytes.extend_from_slice(&buf[..count])?;
+        Ok(count)
+    }
+
+    fn flush(&mut self) -> io::Result<()> {
+        Ok(())
+    }
+}
+
 // A writer that takes nothing, fails, and then takes all.
 #[derive(Drop)]
 struct FaultyWriter {
@@ -157,5 +185,38 @@ fn copies_from_a_reader_to_a_writer(rt: HostRuntime) -> Result<(), Fail> {
         assert_eq!(rt; copy(&mut source, &mut sink, 3), Ok(true));
     }
     assert_eq!(rt; out.as_slice(), b"value Y\n".as_slice());
+    Ok(())
+}
+
+#[test]
+fn tells_how_much_a_writer_took(rt: HostRuntime) -> Result<(), Fail> {
+    let mut out = Vec::new(rt.alloc());
+    {
+        let mut sink = StdSink::new(ShortWriter { bytes: &mut out });
+        assert_eq!(rt; sink.write(b"value"), Ok(3));
+        assert_eq!(rt; write_all(&mut sink, b"ue Y\n"), Ok(()));
+    }
+    assert_eq!(rt; out.as_slice(), b"value Y\n".as_slice());
+    Ok(())
+}
+
+#[test]
+fn gives_nothing_to_an_empty_piece(rt: HostRuntime) -> Result<(), Fail> {
+    let mut sure = SureSource::new(b"Y".to_vec(rt.alloc())?);
+    assert_eq!(rt; read_nothing(&mut sure), Ok(0));
+    let mut memory = MemorySource::new(
+        b"Y".to_vec(rt.alloc())?,
+        [2].to_vec(rt.alloc())?,
+        Vec::new(rt.alloc()),
+    );
+    assert_eq!(rt; read_nothing(&mut memory), Ok(0));
+    assert_eq!(rt; read_nothing(&mut memory), Err(Failed));
+    let mut reader = StdSource::new(b"Y".as_slice());
+    assert_eq!(rt; read_nothing(&mut reader), Ok(0));
+
+    let mut piece = [0u8; 4];
+    assert_eq!(rt; sure.read(&mut piece), Ok(1));
+    assert_eq!(rt; memory.read(&mut piece), Ok(1));
+    assert_eq!(rt; reader.read(&mut piece), Ok(1));
     Ok(())
 }
