@@ -7,3 +7,4 @@ pub mod Literal
 pub mod Significand
 pub mod Order
 pub mod OrderLaws
+pub mod Memory

@@ -19,3 +19,4 @@ pub mod NestingLimits
 pub mod SyntaxPlaces
 pub mod Exponents
 pub mod LongestLiterals
+pub mod NoMemory

@@ -1,7 +1,7 @@
 //! What holds of the grammar, the reading and the printed text together. Each function has an empty
 //! body, and its clauses are a theorem on the definitions.
 
-ghost use Rattle.std.specs.Prelude.{◌≡◌, ◌↔◌, ℕ, ◌≤◌, true, pos, negsuc, List, ◌∷◌, length, take, Some, None, IsSome, Ok, Err, codes, count_by, replicate};
+ghost use Rattle.std.specs.Prelude.{◌≡◌, ◌≢◌, ◌↔◌, ℕ, ◌≤◌, true, pos, negsuc, List, ◌∷◌, length, take, Some, None, IsSome, Ok, Err, codes, count_by, replicate};
 ghost use Rattle.std.specs.Char.{is_ascii_digit};
 ghost use Rattle.decimal18.specs.Literal.{literal_of};
 ghost use Rattle.decimal18.specs.Bound.{scaled};
@@ -13,7 +13,7 @@ ghost use Rattle.formula_ast.specs.Machine.{Stage, stages, trees, first_stage};
 ghost use Rattle.formula_ast.specs.Reading.{is_open, reading_of};
 ghost use Rattle.formula_ast.specs.Printing.{print};
 ghost use Rattle.formula_ast.specs.Rules.{IsReadOrRuled, IsFormula, written_len, IsFirstWrong};
-ghost use Rattle.formula_ast.specs.declared.fault.FormulaFault.TheVariants.{Syntax, UnknownFunction, Number, BadPower, TooDeep};
+ghost use Rattle.formula_ast.specs.declared.fault.FormulaFault.TheVariants.{Syntax, UnknownFunction, Number, BadPower, TooDeep, OutOfMemory};
 ghost use Rattle.formula_ast.specs.declared.token.Kind.{Kind};
 ghost use Rattle.formula_ast.specs.declared.token.Sign.TheVariants.{Plus, Minus, Times, Over};
 
@@ -58,6 +58,11 @@ pub fn syntax_is_placed_at_the_first_wrong_token()
 /// Each exponent of what was read is from -9 to 9 and not 0.
 pub fn what_is_read_has_exponents()
     ensures { (text : List ℕ) (f : Tree) → reading_of text ≡ Ok f → HasExponents f }
+{}
+
+/// What a text is read as is the formula or a refusal of a token, and no want of memory.
+pub fn reading_is_never_a_want_of_memory()
+    ensures { (text : List ℕ) → reading_of text ≢ Err OutOfMemory }
 {}
 
 /// The number at the front of a text that begins with a digit is the longest literal there.
