@@ -1,6 +1,7 @@
 -- Commands, with rows as the definitions have them.
 use Rattle.std.specs.Prelude.{ℕ, List}
 use Rattle.sheet_rows.specs.Rows.{Row, row_of}
+use Rattle.sheet_rows.specs.Regular.{IsRegular}
 use Rattle.answers.specs.declared.command.Query.{Query}
 use Rattle.answers.specs.declared.command.Edit.{Edit as CodeEdit}
 use Rattle.answers.specs.declared.command.Edit.TheVariants.{Add as CodeAdd, Set as CodeSet, Remove as CodeRemove}
@@ -44,3 +45,18 @@ command_of (CodeMark name) = Mark name
 command_of (CodeRestore name) = Restore name
 command_of (CodeAsk query) = Ask query
 command_of (CodeAskAt name query) = AskAt name query
+
+-- ---- the rows of commands are regular
+abbrev pub IsRegularEdit : Edit → Type 0
+IsRegularEdit (Add row) = IsRegular row
+IsRegularEdit (Set row) = IsRegular row
+IsRegularEdit (Remove name) = Unit {0}
+
+abbrev pub IsRegularCommand : Command → Type 0
+IsRegularCommand (Change edit) = IsRegularEdit edit
+IsRegularCommand Undo = Unit {0}
+IsRegularCommand Redo = Unit {0}
+IsRegularCommand (Mark name) = Unit {0}
+IsRegularCommand (Restore name) = Unit {0}
+IsRegularCommand (Ask query) = Unit {0}
+IsRegularCommand (AskAt name query) = Unit {0}

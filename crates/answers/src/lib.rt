@@ -4,10 +4,8 @@
 mod command;
 mod fault;
 mod reply;
-mod row_list;
 
 pub use command::{Command, Edit, Query};
 pub use decimal18::OutOfMemory;
 pub use fault::{AskFault, HistoryFault, LineFault, MarkFault};
 pub use reply::{Answer, Reply};
-pub use row_list::RowList;

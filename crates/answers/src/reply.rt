@@ -1,8 +1,7 @@
 use crate::fault::{AskFault, HistoryFault, LineFault, MarkFault};
-use crate::row_list::RowList;
 use fixed_interval::{ArithFault, Span};
 use formula_ast::Name;
-use sheet_rows::EditFault;
+use sheet_rows::{EditFault, RowList};
 
 /// The answer to a query.
 #[derive(Drop, Debug)]

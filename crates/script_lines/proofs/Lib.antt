@@ -1,3 +1,4 @@
 pub mod LineParts
 pub mod LineAnswers
 pub mod RegularLines
+pub mod NoMemory

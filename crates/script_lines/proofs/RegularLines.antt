@@ -1,16 +1,16 @@
 -- What lines add or set are regular rows.
-use Rattle.std.specs.Prelude.{◌≡◌, ℕ, ◌+◌, List, [], ◌∷◌, length, Option, Some, None, Result, Ok, Err, IfOk, IfSome}
+use Rattle.std.specs.Prelude.{ℕ, ◌+◌, List, [], ◌∷◌, length, Some, Ok, Err, IfOk, IfSome}
 use Rattle.line_words.specs.Words.{Word, words_from, written_part}
 use Rattle.sheet_rows.specs.Rows.{Row}
 use Rattle.sheet_rows.specs.Regular.{IsRegular}
 use Rattle.sheet_rows.specs.Reading.{Read as ReadRow, row_read}
 use Rattle.sheet_rows.proofs.RegularRows.{read_regular as row_regular}
-use Rattle.answers.specs.Commands.{Command, Add, Set, Remove, Change, Undo, Redo, Mark, Restore, Ask, AskAt}
+use Rattle.answers.specs.Commands.{IsRegularCommand, Add, Set, Remove, Change, Undo, Redo, Mark, Restore, Ask, AskAt}
 use Rattle.script_lines.specs.declared.item.Item.{Item}
 use Rattle.script_lines.specs.declared.item.Item.TheVariants.{Line, LongLine}
 use Rattle.script_lines.specs.declared.verb.Verb.{Verb}
 use Rattle.script_lines.specs.declared.verb.Verb.TheVariants.{Set as SetVerb, Remove as RemoveVerb, Undo as UndoVerb, Redo as RedoVerb, Mark as MarkVerb, Restore as RestoreVerb, At as AtVerb, Ask as AskVerb, Row as RowVerb}
-use Rattle.script_lines.specs.Commands.{Read, mapped, no_more, sole_name, query_with, query_at, verb_of, row_of_line, command_with, line_with, line_read, command_read, IsRegularCommand}
+use Rattle.script_lines.specs.Commands.{Read, mapped, no_more, sole_name, query_with, query_at, verb_of, row_of_line, command_with, line_with, line_read, command_read}
 
 mapped_holds : {A B : Type 0} (r : Read A) (make : A → B) (P : A → Type 0) (Q : B → Type 0) → IfOk r P → ((x : A) → P x → Q (make x)) → IfOk (mapped make r) Q
 mapped_holds (Ok x) make P Q h k = k x h

@@ -1,30 +1,24 @@
--- What the reader answers, beside what a line is by the definitions: any answer may be a want of memory.
-use Rattle.std.specs.Prelude.{◌≡◌, Option, Some, None, Ok, Err}
+-- What the reader answers, beside what a line is by the definitions.
+use Rattle.std.specs.Prelude.{Option, Some, None, Ok, Err}
+use Rattle.decimal18.specs.Memory.{Gives}
 use Rattle.sheet_rows.specs.Rows.{Row, row_of}
 use Rattle.sheet_rows.specs.declared.row.Row.{Row as CodeRow}
 use Rattle.answers.specs.Commands.{Command, command_of}
 use Rattle.answers.specs.declared.command.Command.{Command as CodeCommand}
-use Rattle.answers.specs.declared.fault.LineFault.{LineFault}
-use Rattle.answers.specs.declared.fault.LineFault.TheVariants.{Syntax, Row as RowRefused, LongLine, NotBuilt, OutOfMemory}
-use Rattle.script_lines.specs.Commands.{Read}
+use Rattle.answers.specs.declared.fault.LineFault.TheVariants.{OutOfMemory}
+use Rattle.script_lines.specs.Commands.{Read, mapped}
 
-abbrev pub Fails : {A : Type 0} → LineFault → Read A → Type 0
-Fails OutOfMemory r = Unit {0}
-Fails (Syntax at) r = r ≡ Err (Syntax at)
-Fails (RowRefused fault) r = r ≡ Err (RowRefused fault)
-Fails LongLine r = r ≡ Err LongLine
-Fails NotBuilt r = r ≡ Err NotBuilt
+abbrev pub line_given : Read (Option CodeCommand) → Read (Option Command)
+line_given (Ok None) = Ok None
+line_given (Ok (Some command)) = Ok (Some (command_of command))
+line_given (Err fault) = Err fault
 
+-- the answer is what the definition gives, or a want of memory
 abbrev pub GivesRow : Read CodeRow → Read Row → Type 0
-GivesRow (Ok row) r = r ≡ Ok (row_of row)
-GivesRow (Err fault) r = Fails fault r
+GivesRow answer r = Gives OutOfMemory (mapped row_of answer) r
 
 abbrev pub GivesCommand : Read CodeCommand → Read Command → Type 0
-GivesCommand (Ok command) r = r ≡ Ok (command_of command)
-GivesCommand (Err fault) r = Fails fault r
+GivesCommand answer r = Gives OutOfMemory (mapped command_of answer) r
 
--- the command that a line is, if any
 abbrev pub GivesLine : Read (Option CodeCommand) → Read (Option Command) → Type 0
-GivesLine (Ok None) r = r ≡ Ok None
-GivesLine (Ok (Some command)) r = r ≡ Ok (Some (command_of command))
-GivesLine (Err fault) r = Fails fault r
+GivesLine answer r = Gives OutOfMemory (line_given answer) r

@@ -4,9 +4,8 @@ use Rattle.std.specs.Prelude.{ℕ, ◌+◌, ◌||◌, Bool, if◌then◌else◌,
 use Rattle.formula_ast.specs.Names.{is_plain_name, is_name}
 use Rattle.line_words.specs.Words.{Word, words_from, written_part}
 use Rattle.sheet_rows.specs.Rows.{Row}
-use Rattle.sheet_rows.specs.Regular.{IsRegular}
 use Rattle.sheet_rows.specs.Reading.{Read as ReadRow, row_read}
-use Rattle.answers.specs.Commands.{Edit, Command, Add, Set, Remove, Change, Undo, Redo, Mark, Restore, Ask, AskAt}
+use Rattle.answers.specs.Commands.{Command, Add, Set, Remove, Change, Undo, Redo, Mark, Restore, Ask, AskAt}
 use Rattle.answers.specs.declared.command.Query.{Query}
 use Rattle.answers.specs.declared.command.Query.TheVariants.{Value, Dump}
 use Rattle.answers.specs.declared.fault.LineFault.{LineFault}
@@ -117,18 +116,3 @@ line_read line = line_with line (length (written_part line)) (words_from (writte
 abbrev pub command_read : Item → Read (Option Command)
 command_read LongLine = Err TooLong
 command_read (Line line) = line_read line
-
--- ---- the rows of commands are regular
-abbrev pub IsRegularEdit : Edit → Type 0
-IsRegularEdit (Add row) = IsRegular row
-IsRegularEdit (Set row) = IsRegular row
-IsRegularEdit (Remove name) = Unit {0}
-
-abbrev pub IsRegularCommand : Command → Type 0
-IsRegularCommand (Change edit) = IsRegularEdit edit
-IsRegularCommand Undo = Unit {0}
-IsRegularCommand Redo = Unit {0}
-IsRegularCommand (Mark name) = Unit {0}
-IsRegularCommand (Restore name) = Unit {0}
-IsRegularCommand (Ask query) = Unit {0}
-IsRegularCommand (AskAt name query) = Unit {0}

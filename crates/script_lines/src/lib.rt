@@ -2,6 +2,7 @@
 #![tactic(auto)]
 
 mod item;
+mod laws;
 mod print;
 mod print_fault;
 mod read;
@@ -14,6 +15,7 @@ mod worked;
 
 pub use decimal18::OutOfMemory;
 pub use item::Item;
+pub use laws::commands_are_never_a_want_of_memory;
 pub use print::print_reply;
 pub use read::read_command;
 pub use splitter::Splitter;

@@ -1,6 +1,8 @@
 ghost use Rattle.std.specs.Prelude.{◌≡◌, ◌++◌, map, IsFalse, IfOk, OnOk, codes};
 ghost use Rattle.decimal18.specs.Text.{text_of};
 ghost use Rattle.sheet_rows.specs.Rows.{row_of};
+ghost use Rattle.sheet_rows.specs.Regular.{AreRegular};
+ghost use Rattle.answers.specs.Replies.{IsRegularAnswer, IsRegularReply};
 ghost use Rattle.answers.specs.declared.reply.Answer.{Answer};
 ghost use Rattle.script_lines.specs.Texts.{arithmetic_words, text_of_rows, text_of_answer, text_of_reply, is_memory_fault};
 
@@ -46,6 +48,7 @@ fn put_value(alloc: Global, text: &mut Bytes, name: &Name, span: &Span) -> Resul
 
 /// Puts the rows at the end, a line each.
 fn put_rows(alloc: Global, text: &mut Bytes, rows: &[Rc<Row>]) -> Result<(), OutOfMemory>
+    requires { AreRegular (map (λ row. row_of row.value) rows.now) }
     ensures { OnOk result (text.new ≡ text.old ++ text_of_rows (map (λ row. row_of row.value) rows.now)) }
 {
     for row in rows {
@@ -56,6 +59,7 @@ fn put_rows(alloc: Global, text: &mut Bytes, rows: &[Rc<Row>]) -> Result<(), Out
 }
 
 fn put_answer(alloc: Global, text: &mut Bytes, answer: &Answer) -> Result<(), OutOfMemory>
+    requires { IsRegularAnswer answer.now }
     ensures { OnOk result (text.new ≡ text.old ++ text_of_answer answer.now) }
 {
     match answer {
@@ -69,6 +73,7 @@ fn put_answer(alloc: Global, text: &mut Bytes, answer: &Answer) -> Result<(), Ou
 }
 
 fn put_reply(alloc: Global, text: &mut Bytes, reply: &Reply) -> Result<(), OutOfMemory>
+    requires { IsRegularReply reply.now }
     ensures { OnOk result (text.new ≡ text.old ++ text_of_reply reply.now) }
 {
     match reply {
@@ -88,7 +93,8 @@ fn put_reply(alloc: Global, text: &mut Bytes, reply: &Reply) -> Result<(), OutOf
 ///
 /// [`OutOfMemory`] where there is no memory for the text.
 pub fn print_reply(alloc: Global, reply: &Reply) -> Result<Bytes, OutOfMemory>
-    requires { IsFalse (is_memory_fault reply.now) }
+    requires told { IsFalse (is_memory_fault reply.now) }
+    requires regular { IsRegularReply reply.now }
     ensures { IfOk result (λ text. text ≡ text_of_reply reply.now) }
 {
     let mut text = Bytes::new(alloc)?;

@@ -5,8 +5,8 @@ ghost use Rattle.line_words.specs.Words.{words_from};
 ghost use Rattle.sheet_rows.specs.Rows.{row_of};
 ghost use Rattle.sheet_rows.specs.Regular.{IsRegular};
 ghost use Rattle.sheet_rows.specs.Reading.{row_read};
-ghost use Rattle.answers.specs.Commands.{command_of};
-ghost use Rattle.script_lines.specs.Commands.{row_of_line, command_with, line_read, command_read, IsRegularCommand};
+ghost use Rattle.answers.specs.Commands.{command_of, IsRegularCommand};
+ghost use Rattle.script_lines.specs.Commands.{row_of_line, command_with, line_read, command_read};
 ghost use Rattle.script_lines.specs.Answers.{GivesRow, GivesCommand, GivesLine};
 
 use crate::item::Item;

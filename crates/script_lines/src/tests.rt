@@ -1,14 +1,15 @@
 //! Texts in pieces, lines that are refused, and printed replies.
 
 ghost use Rattle.std.specs.Prelude.{IsFalse};
+ghost use Rattle.answers.specs.Replies.{IsRegularReply};
 ghost use Rattle.script_lines.specs.Texts.{is_memory_fault};
 
 use crate::{Item, Splitter, print_reply, read_command};
-use answers::{Answer, AskFault, HistoryFault, LineFault, MarkFault, Reply, RowList};
+use answers::{Answer, AskFault, HistoryFault, LineFault, MarkFault, Reply};
 use decimal18::Bytes;
 use fixed_interval::ArithFault;
 use formula_ast::Name;
-use sheet_rows::{EditFault, RowFault, read_row};
+use sheet_rows::{EditFault, RowFault, RowList, read_row};
 use std::alloc::Global;
 use std::rc::Rc;
 use std::test::Fail;
@@ -171,7 +172,8 @@ fn lines_that_are_commands(rt: HostRuntime) -> Result<(), Fail> {
 
 // Whether this is the text of the reply.
 fn prints(alloc: Global, reply: Reply, text: &str) -> Result<bool, Fail>
-    requires { IsFalse (is_memory_fault reply) }
+    requires told { IsFalse (is_memory_fault reply) }
+    requires regular { IsRegularReply reply }
 {
     Ok(print_reply(alloc, &reply)?.as_slice() == text.as_bytes())
 }
@@ -214,7 +216,7 @@ fn answers_are_printed(rt: HostRuntime) -> Result<(), Fail> {
     let Ok(row) = read_row(alloc, b"let Y=X+ 2", 0) else {
         panic!(rt; "no row");
     };
-    let mut rows = RowList::new(alloc);
+    let mut rows = RowList::new(alloc)?;
     rows.push(Rc::new(alloc, row)?)?;
     assert!(rt;
         prints(

@@ -1,30 +1,50 @@
--- An edit leaves a well-formed sheet well formed, whatever it answers. For the crates above.
-use Rattle.std.proofs.Common.{◌≡◌, ℕ, List, Result, Ok, Err, sym, subst, OnErr}
-use Rattle.sheet_rows.specs.declared.row.Row.{Row as CodeRow}
+-- An edit leaves a sheet standing, whatever it answers.
+use Rattle.std.proofs.Common.{◌≡◌, ℕ, Bool, true, false, cond, List, [], ◌∷◌, ◌++◌, Result, Ok, Err, sym, subst, OnOk}
 use Rattle.sheet_rows.specs.declared.edit_fault.EditFault.{EditFault}
-use Rattle.sheet_rows.specs.Rows.{Row}
-use Rattle.sheet_rows.specs.Sheets.{Verdict, IsWellFormed, verdict_add, verdict_set, verdict_remove}
-use Rattle.sheet_rows.specs.Places.{sheet_of, IsVerdict}
+use Rattle.sheet_rows.specs.Rows.{Row, Sheet, name_of}
+use Rattle.sheet_rows.specs.Sheets.{Verdict, IsAccepted, is_named, added, set_row, removed, rows_with, rows_without, verdict_add, verdict_set, verdict_remove}
+use Rattle.sheet_rows.specs.Regular.{IsRegular, AreRegular, IsStanding}
+use Rattle.sheet_rows.specs.Places.{IsVerdict}
 use Rattle.sheet_rows.proofs.Adding.{add_accepted}
 use Rattle.sheet_rows.proofs.Setting.{set_accepted}
 use Rattle.sheet_rows.proofs.Removing.{remove_accepted}
 
-kept : {A : Type 0} (r : Result A EditFault) (xs ys : List CodeRow) (v : Verdict) → ((e : List Row) → v ≡ Ok e → IsWellFormed e)
-    → IsWellFormed (sheet_of xs) → IsVerdict r (sheet_of ys) v → OnErr r (ys ≡ xs) → IsWellFormed (sheet_of ys)
-kept (Ok x) xs ys v says w h e = says (sheet_of ys) h
-kept (Err f) xs ys v says w h e = subst (λ zs. IsWellFormed (sheet_of zs)) (sym e) w
+-- ---- the rows stay regular
+regular_added : (rows : List Row) (row : Row) → AreRegular rows → IsRegular row → AreRegular (rows ++ row ∷ [])
+regular_added [] row h g = (g, tt)
+regular_added (r ∷ rs) row h g = (h.0, regular_added rs row h.1 g)
 
--- of `try_add`: its result, the rows before and after, the row, and its clauses `verdict` and `unchanged`
-pub add_keeps_well_formed : {A : Type 0} (r : Result A EditFault) (xs ys : List CodeRow) (row : Row) → IsWellFormed (sheet_of xs)
-    → IsVerdict r (sheet_of ys) (verdict_add (sheet_of xs) row) → OnErr r (ys ≡ xs) → IsWellFormed (sheet_of ys)
-add_keeps_well_formed r xs ys row w h e = kept r xs ys (verdict_add (sheet_of xs) row) (λ s g. (add_accepted (sheet_of xs) row w s g).well_formed) w h e
+cond_regular : (t : Bool) (a b : List Row) → AreRegular a → AreRegular b → AreRegular (cond t a b)
+cond_regular true a b h g = h
+cond_regular false a b h g = g
 
--- the same of `try_set`
-pub set_keeps_well_formed : {A : Type 0} (r : Result A EditFault) (xs ys : List CodeRow) (row : Row) → IsWellFormed (sheet_of xs)
-    → IsVerdict r (sheet_of ys) (verdict_set (sheet_of xs) row) → OnErr r (ys ≡ xs) → IsWellFormed (sheet_of ys)
-set_keeps_well_formed r xs ys row w h e = kept r xs ys (verdict_set (sheet_of xs) row) (λ s g. (set_accepted (sheet_of xs) row w s g).well_formed) w h e
+regular_set : (rows : List Row) (row : Row) → AreRegular rows → IsRegular row → AreRegular (rows_with row rows)
+regular_set [] row h g = tt
+regular_set (r ∷ rs) row h g = cond_regular (is_named (name_of row) r) (row ∷ rs) (r ∷ rows_with row rs) (g, h.1) (h.0, regular_set rs row h.1 g)
 
--- and of `try_remove`, with the name
-pub remove_keeps_well_formed : {A : Type 0} (r : Result A EditFault) (xs ys : List CodeRow) (n : List ℕ) → IsWellFormed (sheet_of xs)
-    → IsVerdict r (sheet_of ys) (verdict_remove (sheet_of xs) n) → OnErr r (ys ≡ xs) → IsWellFormed (sheet_of ys)
-remove_keeps_well_formed r xs ys n w h e = kept r xs ys (verdict_remove (sheet_of xs) n) (λ s g. (remove_accepted (sheet_of xs) n w s g).well_formed) w h e
+regular_removed : (rows : List Row) (n : List ℕ) → AreRegular rows → AreRegular (rows_without n rows)
+regular_removed [] n h = tt
+regular_removed (r ∷ rs) n h = cond_regular (is_named n r) rs (r ∷ rows_without n rs) h.1 (h.0, regular_removed rs n h.1)
+
+-- ---- the sheet that an edit makes
+accepted_stands : (edited sheet : Sheet) → IsAccepted edited sheet → AreRegular sheet.rows → IsStanding edited
+accepted_stands edited sheet accepted regular =
+    record { well_formed = accepted.well_formed; regular = subst (λ s. AreRegular s.rows) (sym accepted.is) regular }
+
+pub add_stands : (sheet edited : Sheet) (row : Row) → IsStanding sheet → IsRegular row → verdict_add sheet row ≡ Ok edited → IsStanding edited
+add_stands sheet edited row h g e =
+    accepted_stands edited (added sheet row) (add_accepted sheet row h.well_formed edited e) (regular_added sheet.rows row h.regular g)
+
+pub set_stands : (sheet edited : Sheet) (row : Row) → IsStanding sheet → IsRegular row → verdict_set sheet row ≡ Ok edited → IsStanding edited
+set_stands sheet edited row h g e =
+    accepted_stands edited (set_row row sheet) (set_accepted sheet row h.well_formed edited e) (regular_set sheet.rows row h.regular g)
+
+pub remove_stands : (sheet edited : Sheet) (n : List ℕ) → IsStanding sheet → verdict_remove sheet n ≡ Ok edited → IsStanding edited
+remove_stands sheet edited n h e =
+    accepted_stands edited (removed n sheet) (remove_accepted sheet n h.well_formed edited e) (regular_removed sheet.rows n h.regular)
+
+-- where the verdict's sheet stands, so does the one that an answer leaves
+pub verdict_stands : {A : Type 0} (r : Result A EditFault) (new : Sheet) (v : Verdict) → ((edited : Sheet) → v ≡ Ok edited → IsStanding edited)
+    → IsVerdict r new v → OnOk r (IsStanding new)
+verdict_stands (Ok x) new v says h = says new h
+verdict_stands (Err fault) new v says h = tt

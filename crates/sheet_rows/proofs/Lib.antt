@@ -5,7 +5,6 @@ pub mod MovedPlaces
 pub mod PlainBytes
 pub mod SolidTexts
 pub mod PrintedRows
-pub mod ReadRows
 pub mod Mentions
 pub mod Entries
 pub mod Positions
@@ -15,3 +14,4 @@ pub mod Adding
 pub mod Setting
 pub mod Removing
 pub mod Keeping
+pub mod NoMemory

@@ -15,17 +15,17 @@ use Rattle.formula_ast.specs.Fronts.{IsTight}
 use Rattle.formula_ast.specs.Trees.{Tree}
 use Rattle.formula_ast.specs.Reading.{reading_of}
 use Rattle.formula_ast.specs.Printing.{print}
-use Rattle.formula_ast.proofs.Again.{read_regular, read_again as formula_again}
+use Rattle.formula_ast.proofs.Again.{read_regular}
 use Rattle.formula_ast.proofs.PrintedNumbers.{run_whole}
 use Rattle.line_words.specs.Words.{Word, is_in_word, words, written_part}
 use Rattle.line_words.proofs.WordSteps.{front_words, drop_twice}
-use Rattle.type_b.specs.Shapes.{checked}
+use Rattle.type_b.specs.Shapes.{HasDecimals, checked}
 use Rattle.type_b.specs.declared.shape.Shape.{Shape}
 use Rattle.type_b.specs.declared.shape.Shape.TheVariants.{Exact, Std}
 use Rattle.type_b.specs.declared.shape.Dof.TheVariants.{Inf}
 use Rattle.sheet_rows.specs.Rows.{Row, Given, Formula}
 use Rattle.sheet_rows.specs.Reading.{shape_word, given_of, past_blanks, front_name, is_in_name, begins_equals, let_of, row_at, row_from, row_read}
-use Rattle.sheet_rows.specs.Regular.{IsStated, IsPrintable}
+use Rattle.sheet_rows.specs.Regular.{IsRegular}
 use Rattle.sheet_rows.specs.Printing.{shape_text, printed}
 use Rattle.sheet_rows.proofs.MovedPlaces.{read_behind_blank}
 use Rattle.sheet_rows.proofs.PlainBytes.{ArePlain, all_in_word, all_no_hash, all_in_name, names_plain, name_some, text_plain, text_some}
@@ -60,23 +60,19 @@ last_word w at all some =
     ap (λ t. words t 0 at) (sym (append-nil w)) ∙ front_word w [] at all some refl
 
 -- ---- inputs
-shape_again : (s : Shape) (end at : ℕ) → IsStated s → shape_word end (words (shape_text s) 0 at) ≡ Ok (record { item = s; rest = [] })
+shape_again : (s : Shape) (end at : ℕ) → HasDecimals s → shape_word end (words (shape_text s) 0 at) ≡ Ok (record { item = s; rest = [] })
 shape_again Exact end at h = ap (λ ws. shape_word end ws) (last_word (codes "exact") at refl (omega arith))
 shape_again (Std u) end at h =
-    let plain : ArePlain (text_of u) = text_plain u h.0.bound in
+    let plain : ArePlain (text_of u) = text_plain u h.bound in
     let parts : words (codes "std" ++ 32 ∷ text_of u) 0 at
     ≡ record { place = at; text = codes "std" } ∷ record { place = at + 3 + 1; text = text_of u } ∷ []
     = front_word (codes "std") (32 ∷ text_of u) at refl (omega arith) refl
-    ∙ ap (λ ws. record { place = at; text = codes "std" } ∷ ws) (last_word (text_of u) (at + 3 + 1) (all_in_word (text_of u) plain) (text_some u h.0.bound)) in
-    ap (λ ws. shape_word end ws) parts ∙ number (text_of u) u (bound_again u h.0.bound h.0.canonical) where
+    ∙ ap (λ ws. record { place = at; text = codes "std" } ∷ ws) (last_word (text_of u) (at + 3 + 1) (all_in_word (text_of u) plain) (text_some u h.bound)) in
+    ap (λ ws. shape_word end ws) parts ∙ number (text_of u) u (bound_again u h.bound h.canonical) where
       number : (t : List ℕ) (u : Bound) → parsed t ≡ Ok u →
           shape_word end (record { place = at; text = codes "std" } ∷ record { place = at + 3 + 1; text = t } ∷ [])
           ≡ Ok (record { item = Std u; rest = [] })
       number t u e = rw e refl
-
-stated_checked : (s : Shape) → IsStated s → checked s ≡ Ok (record {})
-stated_checked Exact h = refl
-stated_checked (Std u) h = rw h.1 refl
 
 given_again : (end p q : ℕ) (name number : List ℕ) (e : Bound) (s : Shape) (ws : List Word) → is_plain_name name ≡ true → parsed number ≡ Ok e →
     shape_word end ws ≡ Ok (record { item = s; rest = [] }) → checked s ≡ Ok (record {}) →
@@ -101,9 +97,9 @@ given_line name number shape = codes "given " ++ (name ++ (codes " " ++ (number 
 abbrev let_line : List ℕ → List ℕ → List ℕ
 let_line name text = codes "let " ++ (name ++ (codes " = " ++ text))
 
-given_row : (name : List ℕ) (e : Bound) (s : Shape) → is_plain_name name ≡ true → IsDecimal e → IsStated s →
+given_row : (name : List ℕ) (e : Bound) (s : Shape) → is_plain_name name ≡ true → IsDecimal e → HasDecimals s → checked s ≡ Ok (record {}) →
     row_from (given_line name (text_of e) (shape_text s)) 0 ≡ Ok (Given name e s Inf)
-given_row name e s plain decimal stated =
+given_row name e s plain decimal has fine =
     let number : List ℕ = text_of e in
     let line : List ℕ = given_line name number (shape_text s) in
     let name_words : list_all is_in_word name ≡ true = all_in_word name (names_plain name plain) in
@@ -111,7 +107,7 @@ given_row name e s plain decimal stated =
     ap (λ ws. row_at line ws) (given_words name number (shape_text s) name_words (name_some name plain) number_words (text_some e decimal.bound))
     ∙ given_again (length line) 6 (6 + length name + 1) name number e s (words (shape_text s) 0 (6 + length name + 1 + length number + 1)) plain
     (bound_again e decimal.bound decimal.canonical)
-    (shape_again s (length line) (6 + length name + 1 + length number + 1) stated) (stated_checked s stated)
+    (shape_again s (length line) (6 + length name + 1 + length number + 1) has) fine
 
 -- ---- formulas
 let_again : (line name : List ℕ) (f : Tree) (at p q : ℕ) → past_blanks line at ≡ p → front_name (drop p line) ≡ name →
@@ -154,16 +150,16 @@ formula_row name f plain read =
     (ap reading_of text ∙ read_behind_blank (print f) f read)
 
 -- ---- rows
-given_solid : (name : List ℕ) (e : Bound) (s : Shape) → is_plain_name name ≡ true → IsDecimal e → IsStated s → IsSolid (given_line name (text_of e) (shape_text s))
+given_solid : (name : List ℕ) (e : Bound) (s : Shape) → is_plain_name name ≡ true → IsDecimal e → HasDecimals s → IsSolid (given_line name (text_of e) (shape_text s))
 given_solid name e s plain decimal stated =
     solid_behind (codes "given ") _ refl
     (solid_behind name _ (all_no_hash name (names_plain name plain))
     (solid_behind (codes " ") _ refl
     (solid_behind (text_of e) _ (all_no_hash (text_of e) (text_plain e decimal.bound))
     (solid_behind (codes " ") (shape_text s) refl (shape_solid s stated))))) where
-      shape_solid : (s : Shape) → IsStated s → IsSolid (shape_text s)
+      shape_solid : (s : Shape) → HasDecimals s → IsSolid (shape_text s)
       shape_solid Exact h = record { no_hash = refl; ends = refl; some = omega arith }
-      shape_solid (Std u) h = solid_behind (codes "std ") (text_of u) refl (solid_word (text_of u) (text_plain u h.0.bound) (text_some u h.0.bound))
+      shape_solid (Std u) h = solid_behind (codes "std ") (text_of u) refl (solid_word (text_of u) (text_plain u h.bound) (text_some u h.bound))
 
 formula_solid : (name : List ℕ) (f : Tree) → is_plain_name name ≡ true → IsSolid (print f) → IsSolid (let_line name (print f))
 formula_solid name f plain h =
@@ -186,11 +182,11 @@ unfolding row_read
 line_again text line row e solid read =
     ap (λ t. row_from (written_part t) 0) e ∙ ap (λ t. row_from t 0) (solid_written line solid) ∙ read
 
-pub read_again : (row : Row) → IsPrintable row → row_read (printed row) 0 ≡ Ok row
+pub read_again : (row : Row) → IsRegular row → row_read (printed row) 0 ≡ Ok row
 read_again (Given name e s Inf) h =
     line_again (printed (Given name e s Inf)) (given_line name (text_of e) (shape_text s)) (Given name e s Inf) (given_text name e s)
-    (given_solid name e s h.0 h.1.0 h.1.1) (given_row name e s h.0 h.1.0 h.1.1)
+    (given_solid name e s h.0 h.1 h.2) (given_row name e s h.0 h.1 h.2 h.3)
 read_again (Formula name f) h =
     line_again (printed (Formula name f)) (let_line name (print f)) (Formula name f) (formula_text name f)
-    (formula_solid name f h.0 (print_solid f (read_regular h.1.text f h.1.read)))
-    (formula_row name f h.0 (formula_again h.1.text f h.1.read))
+    (formula_solid name f h.0 (print_solid f (read_regular (print f) f h.1)))
+    (formula_row name f h.0 h.1)

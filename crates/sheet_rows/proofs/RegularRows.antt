@@ -1,74 +1,132 @@
 -- What lines give are regular rows.
-use Rattle.std.specs.Prelude.{◌≡◌, ℕ, ◌+◌, Bool, true, false, if◌then◌else◌, List, [], ◌∷◌, length, drop, Result, Ok, Err, IfOk, bytes_eq, codes, refl}
+use Rattle.std.proofs.Common.{◌≡◌, ℕ, ◌+◌, Bool, true, false, cond, List, [], ◌∷◌, length, drop, refl, subst, ap, arith, Option, None, Some, Result, Ok, Err, IfOk}
+use Rattle.std.specs.Prelude.{codes, bytes_eq}
+use Rattle.std.proofs.lemmas.Bool.Decides.{nat_tests}
+use Rattle.decimal18.specs.Bound.{Bound, canonical, IsCanonical, IsDecimal}
+use Rattle.decimal18.specs.Literal.{Literal, literal_of, exact_of, is_bound, as_bound, in_range, read, parsed}
+use Rattle.decimal18.specs.declared.literal.NumFault.{NumFault}
+use Rattle.decimal18.specs.declared.literal.NumFault.TheVariants.{NotNumber as NoLiteral, NumberRange as NoBound}
+use Rattle.decimal18.proofs.Canonical.{IsReduced-canonical}
 use Rattle.formula_ast.specs.Names.{is_plain_name}
-use Rattle.formula_ast.specs.Trees.{Tree, HasExponents}
+use Rattle.formula_ast.specs.Trees.{Tree}
+use Rattle.formula_ast.specs.Printing.{print}
 use Rattle.formula_ast.specs.Reading.{reading_of}
 use Rattle.formula_ast.specs.declared.fault.FormulaFault.{FormulaFault}
-use Rattle.formula_ast.proofs.Exponents.{read_exponents}
-use Rattle.line_words.specs.Words.{Word, words_from, written_part}
-use Rattle.type_b.specs.Shapes.{checked}
-use Rattle.type_b.specs.declared.shape.Shape.{Shape}
-use Rattle.type_b.specs.declared.shape.Dof.TheVariants.{Inf}
+use Rattle.formula_ast.proofs.Again.{read_again}
+use Rattle.line_words.specs.Words.{Word, written_part, words_from}
+use Rattle.type_b.specs.Shapes.{HasDecimals, checked}
+use Rattle.type_b.specs.declared.shape.Shape.TheVariants.{Exact}
 use Rattle.type_b.specs.declared.shape.ShapeFault.{ShapeFault}
-use Rattle.sheet_rows.specs.Rows.{Row, Given, Formula}
+use Rattle.sheet_rows.specs.Rows.{Row}
+use Rattle.sheet_rows.specs.Reading.{Read, then_read, plain_word, number_in, number_word, is_other_shape, is_other_kind, other_word, std_shape, shape_word, ended, shape_checked, given_of, past_blanks, front_name, name_at, equals_at, formula_in, formula_at, let_of, row_at, row_read}
 use Rattle.sheet_rows.specs.Regular.{IsRegular}
-use Rattle.sheet_rows.specs.declared.fault.RowFault.{RowFault}
-use Rattle.sheet_rows.specs.Reading.{Read, then_read, Front, plain_word, number_word, shape_word, ended, shape_checked, given_of, Behind, past_blanks, front_name, name_in, name_at, equals_at, formula_in, formula_at, let_of, other_word, is_other_kind, row_at, row_from, row_read}
+use Rattle.sheet_rows.specs.declared.fault.RowFault.TheVariants.{Syntax}
 
-then_holds : {A B : Type 0} (r : Read A) (next : A → Read B) (P : A → Type 0) (Q : B → Type 0) → IfOk r P
-    → ((x : A) → P x → IfOk (next x) Q) → IfOk (then_read r next) Q
-then_holds (Err fault) next P Q h k = tt
-then_holds (Ok x) next P Q h k = k x h
+-- ---- numbers
+bound_decimal : (c : Bound) (t : Bool) → is_bound c ≡ t → IsCanonical c → (b : Bound) → cond t (Some c) None ≡ Some b → IsDecimal b
+bound_decimal c false e least b h = absurd (cc)
+bound_decimal c true e least b h =
+    let same : c ≡ b = cc in
+    subst IsDecimal same (record { bound = record { digits = grind (arith, nat_tests); most = grind (arith, nat_tests) }; canonical = least })
 
-any_holds : {A : Type 0} (r : Read A) → IfOk r (λ x. Unit {0})
-any_holds (Err fault) = tt
-any_holds (Ok x) = tt
+range_decimal : (o : Option Bound) (b : Bound) → in_range o ≡ Ok b → o ≡ Some b
+range_decimal None b h = absurd (cc)
+range_decimal (Some c) b h = let same : c ≡ b = cc in ap Some same
 
-tested : {A : Type 0} (test : Bool) (x : A) (fault : RowFault) (P : A → Type 0) → (test ≡ true → P x) → IfOk (if test then Ok x else Err fault) P
-tested true x fault P h = h refl
-tested false x fault P h = tt
+literal_decimal : (o : Option Literal) (b : Bound) → read o ≡ Ok b → IsDecimal b
+literal_decimal None b h = absurd (cc)
+literal_decimal (Some l) b h =
+    let exact : Bound = exact_of l in
+    let c : Bound = canonical exact.coefficient exact.places in
+    bound_decimal c (is_bound c) refl (IsReduced-canonical exact.coefficient exact.places).canonical b (range_decimal (as_bound exact) b h)
 
-plain_holds : (end : ℕ) (ws : List Word) → IfOk (plain_word end ws) (λ f. is_plain_name f.item ≡ true)
-plain_holds end [] = tt
-plain_holds end (w ∷ ws) = tested (is_plain_name w.text) _ _ _ (λ e. e)
+parsed_decimal : (text : List ℕ) (b : Bound) → parsed text ≡ Ok b → IsDecimal b
+unfolding parsed
+parsed_decimal text b h = literal_decimal (literal_of text) b h
 
-checked_holds : (r : Result Unit ShapeFault) → IfOk (shape_checked r) (λ done. r ≡ Ok (record {}))
-checked_holds (Ok done) = refl
-checked_holds (Err fault) = tt
+-- ---- what is read, part by part
+cond_ok : {A : Type 0} (P : A → Type 0) (t : Bool) (a b : Read A) → (t ≡ true → IfOk a P) → IfOk b P → IfOk (cond t a b) P
+cond_ok P true a b h k = h refl
+cond_ok P false a b h k = k
 
-given_regular : (end : ℕ) (ws : List Word) → IfOk (given_of end ws) IsRegular
-given_regular end ws =
-    then_holds (plain_word end ws) _ (λ f. is_plain_name f.item ≡ true) IsRegular (plain_holds end ws)
-    (λ name plain. then_holds (number_word end name.rest) _ (λ x. Unit {0}) IsRegular (any_holds _)
-    (λ estimate t. then_holds (shape_word end estimate.rest) _ (λ x. Unit {0}) IsRegular (any_holds _)
-    (λ shape t. then_holds (ended shape.rest) _ (λ x. Unit {0}) IsRegular (any_holds _)
-    (λ done t. then_holds (shape_checked (checked shape.item)) _ (λ fine. checked shape.item ≡ Ok (record {})) IsRegular (checked_holds (checked shape.item))
-    (λ fine e. (plain, e))))))
+then_ok : {A B : Type 0} (P : A → Type 0) (Q : B → Type 0) (r : Read A) (next : A → Read B) → IfOk r P →
+    ((x : A) → P x → IfOk (next x) Q) → IfOk (then_read r next) Q
+then_ok P Q (Err fault) next h k = tt
+then_ok P Q (Ok x) next h k = k x h
 
-name_holds : (line : List ℕ) (at : ℕ) → IfOk (name_at line at) (λ b. is_plain_name b.item ≡ true)
-name_holds line at = tested (is_plain_name (front_name (drop at line))) _ _ _ (λ e. e)
+plain_ok : (end : ℕ) (ws : List Word) → IfOk (plain_word end ws) (λ x. is_plain_name x.item ≡ true)
+plain_ok end [] = tt
+plain_ok end (w ∷ ws) =
+    cond_ok (λ x. is_plain_name x.item ≡ true) (is_plain_name w.text) (Ok (record { item = w.text; rest = ws })) (Err (Syntax (w.place + 1)))
+    (λ plain. plain) tt
 
-formula_holds : (at : ℕ) (text : List ℕ) (r : Result Tree FormulaFault) → reading_of text ≡ r → IfOk (formula_in at r) HasExponents
-formula_holds at text (Ok f) e = read_exponents text f e
-formula_holds at text (Err fault) e = tt
+literal_ok : (w : Word) (ws : List Word) (r : Result Bound NumFault) → ((b : Bound) → r ≡ Ok b → IsDecimal b) →
+    IfOk (number_in w ws r) (λ x. IsDecimal x.item)
+literal_ok w ws (Ok b) h = h b refl
+literal_ok w ws (Err NoLiteral) h = tt
+literal_ok w ws (Err NoBound) h = tt
 
-let_regular : (line : List ℕ) (at : ℕ) → IfOk (let_of line at) IsRegular
-let_regular line at =
-    then_holds (name_at line (past_blanks line at)) _ (λ b. is_plain_name b.item ≡ true) IsRegular (name_holds line (past_blanks line at))
-    (λ name plain. then_holds (equals_at line (past_blanks line name.at)) _ (λ x. Unit {0}) IsRegular (any_holds _)
-    (λ start t. then_holds (formula_at line start) _ HasExponents IsRegular (formula_holds start (drop start line) _ refl)
-    (λ f e. (plain, e))))
+number_ok : (end : ℕ) (ws : List Word) → IfOk (number_word end ws) (λ x. IsDecimal x.item)
+number_ok end [] = tt
+number_ok end (w ∷ ws) = literal_ok w ws (parsed w.text) (λ b h. parsed_decimal w.text b h)
 
-if_holds : (test : Bool) (a b : Read Row) → IfOk a IsRegular → IfOk b IsRegular → IfOk (if test then a else b) IsRegular
-if_holds true a b h k = h
-if_holds false a b h k = k
+shape_ok : (end : ℕ) (ws : List Word) → IfOk (shape_word end ws) (λ x. HasDecimals x.item)
+shape_ok end [] = tt
+shape_ok end (w ∷ ws) =
+    cond_ok (λ x. HasDecimals x.item) (bytes_eq w.text (codes "exact")) (Ok (record { item = Exact; rest = ws })) _ (λ e. tt)
+    (cond_ok (λ x. HasDecimals x.item) (bytes_eq w.text (codes "std")) (then_read (number_word end ws) std_shape)
+    (Err (other_word (is_other_shape w.text) w.place))
+    (λ e. then_ok (λ u. IsDecimal u.item) (λ x. HasDecimals x.item) (number_word end ws) std_shape (number_ok end ws) (λ u d. d)) tt)
 
-row_regular : (line : List ℕ) (ws : List Word) → IfOk (row_at line ws) IsRegular
-row_regular line [] = tt
-row_regular line (w ∷ ws) =
-    if_holds (bytes_eq w.text (codes "given")) _ _ (given_regular (length line) ws)
-    (if_holds (bytes_eq w.text (codes "let")) _ _ (let_regular line (w.place + length w.text)) tt)
+checked_ok : (r : Result Unit ShapeFault) → IfOk (shape_checked r) (λ done. r ≡ Ok (record {}))
+checked_ok (Ok done) = refl
+checked_ok (Err fault) = tt
+
+any_ok : {A : Type 0} (r : Read A) → IfOk r (λ x. Unit {0})
+any_ok (Ok x) = tt
+any_ok (Err fault) = tt
+
+given_ok : (end : ℕ) (ws : List Word) → IfOk (given_of end ws) IsRegular
+given_ok end ws =
+    then_ok (λ x. is_plain_name x.item ≡ true) IsRegular (plain_word end ws) _ (plain_ok end ws) (λ name plain.
+    then_ok (λ x. IsDecimal x.item) IsRegular (number_word end name.rest) _ (number_ok end name.rest) (λ estimate decimal.
+    then_ok (λ x. HasDecimals x.item) IsRegular (shape_word end estimate.rest) _ (shape_ok end estimate.rest) (λ shape has.
+    then_ok (λ x. Unit {0}) IsRegular (ended shape.rest) _ (any_ok (ended shape.rest)) (λ done u.
+    then_ok (λ x. checked shape.item ≡ Ok (record {})) IsRegular (shape_checked (checked shape.item)) _ (checked_ok (checked shape.item)) (λ fine states.
+    (plain, decimal, has, states))))))
+
+-- the printed formula is read as the formula again
+abbrev IsReadAgain : Tree → Type 0
+IsReadAgain f = reading_of (print f) ≡ Ok f
+
+formula_ok : (at : ℕ) (r : Result Tree FormulaFault) → ((f : Tree) → r ≡ Ok f → IsReadAgain f) → IfOk (formula_in at r) IsReadAgain
+formula_ok at (Ok f) h = h f refl
+formula_ok at (Err fault) h = tt
+
+let_ok : (line : List ℕ) (at : ℕ) → IfOk (let_of line at) IsRegular
+let_ok line at =
+    let name : List ℕ = front_name (drop (past_blanks line at) line) in
+    then_ok (λ x. is_plain_name x.item ≡ true) IsRegular (name_at line (past_blanks line at)) _
+    (cond_ok (λ x. is_plain_name x.item ≡ true) (is_plain_name name) (Ok (record { item = name; at = past_blanks line at + length name }))
+    (Err (Syntax (past_blanks line at + 1))) (λ plain. plain) tt) (λ x plain.
+    then_ok (λ start. Unit {0}) IsRegular (equals_at line (past_blanks line x.at)) _ (any_ok (equals_at line (past_blanks line x.at))) (λ start u.
+    then_ok IsReadAgain IsRegular (formula_at line start) _
+    (formula_ok start (reading_of (drop start line)) (λ f h. read_again (drop start line) f h)) (λ f has.
+    (plain, has))))
+
+words_ok : (line : List ℕ) (ws : List Word) → IfOk (row_at line ws) IsRegular
+words_ok line [] = tt
+words_ok line (w ∷ ws) =
+    cond_ok IsRegular (bytes_eq w.text (codes "given")) (given_of (length line) ws) _ (λ e. given_ok (length line) ws)
+    (cond_ok IsRegular (bytes_eq w.text (codes "let")) (let_of line (w.place + length w.text)) (Err (other_word (is_other_kind w.text) w.place))
+    (λ e. let_ok line (w.place + length w.text)) tt)
 
 pub read_regular : (line : List ℕ) (from : ℕ) → IfOk (row_read line from) IsRegular
 unfolding row_read
-read_regular line from = row_regular (written_part line) (words_from (written_part line) from)
+read_regular line from = words_ok (written_part line) (words_from (written_part line) from)
+
+ok_is : (r : Read Row) (row : Row) → r ≡ Ok row → IfOk r IsRegular → IsRegular row
+ok_is r row e h = rw e at h
+
+pub what_is_read_is_regular : (line : List ℕ) (from : ℕ) (row : Row) → row_read line from ≡ Ok row → IsRegular row
+what_is_read_is_regular line from row h = ok_is (row_read line from) row h (read_regular line from)

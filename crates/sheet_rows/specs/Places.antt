@@ -1,45 +1,37 @@
--- What the code's sheet is, and how it finds names by their places.
-use Rattle.std.specs.Prelude.{◌≡◌, ℕ, Bool, false, ◌||◌, nat_lt, is_some, List, map, position, Option, None, Some, Result, Ok, Err, bytes_eq}
-use Rattle.sheet_rows.specs.Rows.{Row, row_of, name_of}
+-- What the edits of the code answer, and how it finds names by their places.
+use Rattle.std.specs.Prelude.{ℕ, Bool, false, ◌||◌, nat_lt, is_some, List, position, Option, None, Some, Result, Ok, Err, bytes_eq}
+use Rattle.decimal18.specs.Memory.{Gives}
+use Rattle.sheet_rows.specs.Rows.{Sheet, row_of, name_of}
 use Rattle.sheet_rows.specs.Sheets.{Verdict, is_named}
 use Rattle.sheet_rows.specs.declared.row.Row.{Row as CodeRow}
 use Rattle.sheet_rows.specs.declared.edit_fault.EditFault.{EditFault}
-use Rattle.sheet_rows.specs.declared.edit_fault.EditFault.TheVariants.{RowsFull, Duplicate, Unknown, NotEarlier, InUse, OutOfMemory}
+use Rattle.sheet_rows.specs.declared.edit_fault.EditFault.TheVariants.{OutOfMemory}
 
--- ---- sheets
 abbrev pub code_name : CodeRow → List ℕ
 code_name row = name_of (row_of row)
 
--- the rows that the code holds, as a sheet
-abbrev pub sheet_of : List CodeRow → List Row
-sheet_of rows = map row_of rows
+-- ---- answers
+-- an edit's answer as a verdict: the sheet that it leaves, or its refusal
+abbrev pub verdict_of : {A : Type 0} → Result A EditFault → Sheet → Verdict
+verdict_of (Ok done) new = Ok new
+verdict_of (Err fault) new = Err fault
 
--- ---- answers: any edit may be refused for want of memory
-abbrev pub IsRefusal : EditFault → Verdict → Type 0
-IsRefusal OutOfMemory verdict = Unit {0}
-IsRefusal RowsFull verdict = verdict ≡ Err RowsFull
-IsRefusal (Duplicate n) verdict = verdict ≡ Err (Duplicate n)
-IsRefusal (Unknown n) verdict = verdict ≡ Err (Unknown n)
-IsRefusal (NotEarlier n) verdict = verdict ≡ Err (NotEarlier n)
-IsRefusal (InUse n) verdict = verdict ≡ Err (InUse n)
-
--- the answer is the verdict, which leaves the sheet `new`
-abbrev pub IsVerdict : {A : Type 0} → Result A EditFault → List Row → Verdict → Type 0
-IsVerdict (Ok x) new verdict = verdict ≡ Ok new
-IsVerdict (Err fault) new verdict = IsRefusal fault verdict
+-- the answer is the verdict, or a want of memory
+abbrev pub IsVerdict : {A : Type 0} → Result A EditFault → Sheet → Verdict → Type 0
+IsVerdict result new verdict = Gives OutOfMemory (verdict_of result new) verdict
 
 -- ---- places
-abbrev pub place_of : List Row → List ℕ → Option ℕ
-place_of sheet n = position (is_named n) sheet
+abbrev pub place_of : Sheet → List ℕ → Option ℕ
+place_of sheet n = position (is_named n) sheet.rows
 
 abbrev pub is_before : ℕ → Option ℕ → Bool
 is_before at None = false
 is_before at (Some place) = nat_lt place at
 
 -- the name is that of a row, or `own`
-abbrev pub is_known_with : List Row → List ℕ → List ℕ → Bool
+abbrev pub is_known_with : Sheet → List ℕ → List ℕ → Bool
 is_known_with sheet own n = is_some (place_of sheet n) || bytes_eq n own
 
 -- the name is that of a row before the place
-abbrev pub stands_before : List Row → ℕ → List ℕ → Bool
+abbrev pub stands_before : Sheet → ℕ → List ℕ → Bool
 stands_before sheet at n = is_before at (place_of sheet n)

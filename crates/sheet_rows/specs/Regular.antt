@@ -1,30 +1,24 @@
--- The rows that lines give: their names are plain, a standard uncertainty is not negative (JCGM 100:2008, 4.1.5),
--- and exponents are from -9 to 9 and not 0.
-use Rattle.std.specs.Prelude.{◌≡◌, ℕ, true, false, List, Ok}
+-- Regular rows, which are those that lines give: the name is plain, the numbers are bounds in canonical form, the
+-- shape states an uncertainty (JCGM 100:2008, 4.1.5), and the printed formula is read as the formula again.
+use Rattle.std.specs.Prelude.{◌≡◌, true, List, [], ◌∷◌, Ok}
 use Rattle.decimal18.specs.Bound.{IsDecimal}
 use Rattle.formula_ast.specs.Names.{is_plain_name}
-use Rattle.formula_ast.specs.Trees.{Tree, HasExponents}
+use Rattle.formula_ast.specs.Printing.{print}
 use Rattle.formula_ast.specs.Reading.{reading_of}
-use Rattle.type_b.specs.Shapes.{checked, is_negative}
-use Rattle.type_b.specs.declared.shape.Shape.{Shape}
-use Rattle.type_b.specs.declared.shape.Shape.TheVariants.{Exact, Std}
-use Rattle.sheet_rows.specs.Rows.{Row, Given, Formula}
+use Rattle.type_b.specs.Shapes.{HasDecimals, checked}
+use Rattle.sheet_rows.specs.Rows.{Row, Given, Formula, Sheet}
+use Rattle.sheet_rows.specs.Sheets.{IsWellFormed}
 
 abbrev pub IsRegular : Row → Type 0
-IsRegular (Given name estimate shape dof) = (is_plain_name name ≡ true) × (checked shape ≡ Ok (record {}))
-IsRegular (Formula name f) = (is_plain_name name ≡ true) × HasExponents f
+IsRegular (Given name estimate shape dof) =
+    (is_plain_name name ≡ true) × IsDecimal estimate × HasDecimals shape × (checked shape ≡ Ok (record {}))
+IsRegular (Formula name f) = (is_plain_name name ≡ true) × (reading_of (print f) ≡ Ok f)
 
--- ---- rows that are read from their printed text again
--- some text is read as the formula
-pub record HasText (f : Tree) : Type 0 where
-  pub text : List ℕ
-  pub read : reading_of text ≡ Ok f
+abbrev pub AreRegular : List Row → Type 0
+AreRegular [] = Unit {0}
+AreRegular (row ∷ rows) = IsRegular row × AreRegular rows
 
--- a standard uncertainty is a bound in canonical form, and not negative
-abbrev pub IsStated : Shape → Type 0
-IsStated Exact = Unit {0}
-IsStated (Std u) = IsDecimal u × (is_negative u ≡ false)
-
-abbrev pub IsPrintable : Row → Type 0
-IsPrintable (Given name estimate shape dof) = (is_plain_name name ≡ true) × (IsDecimal estimate × IsStated shape)
-IsPrintable (Formula name f) = (is_plain_name name ≡ true) × HasText f
+-- what holds of each sheet that edits make: it is well formed, and its rows are regular
+pub record IsStanding (sheet : Sheet) : Type 0 where
+  pub well_formed : IsWellFormed sheet
+  pub regular : AreRegular sheet.rows

@@ -1,4 +1,4 @@
--- The rows of a sheet.
+-- Rows, and the sheets of which they are.
 use Rattle.std.specs.Prelude.{ℕ, List, [], ◌∷◌}
 use Rattle.decimal18.specs.Bound.{Bound}
 use Rattle.formula_ast.specs.Trees.{Tree, uses, distinct}
@@ -27,9 +27,17 @@ used_names (Formula name formula) = uses formula
 abbrev pub names_used : Row → List (List ℕ)
 names_used row = distinct (used_names row)
 
--- the names that have a value by the row
+-- the names that have a value by the row: here its own name; a row of another kind may give several, or none
 abbrev pub quantities_of : Row → List (List ℕ)
 quantities_of row = name_of row ∷ []
+
+-- ---- sheets
+pub record Sheet : Type 0 where
+  -- in their order
+  pub rows : List Row
+
+abbrev pub empty_sheet : Sheet
+empty_sheet = record { rows = [] }
 
 -- ---- what the code's rows are
 abbrev pub row_of : CodeRow → Row

@@ -6,13 +6,14 @@ mod edits;
 mod fault;
 mod laws;
 mod print;
-mod print_laws;
 mod read;
 mod read_given;
 mod read_let;
 #[cfg(test)]
 mod read_tests;
+mod reading_laws;
 mod row;
+mod row_list;
 mod sheet;
 #[cfg(test)]
 mod tests;
@@ -22,11 +23,13 @@ pub use decimal18::OutOfMemory;
 pub use edit_fault::EditFault;
 pub use fault::RowFault;
 pub use laws::{
-    adding_is_accepted_where_well_formed, removing_is_accepted_where_well_formed,
-    setting_is_accepted_where_well_formed, the_empty_sheet_is_well_formed,
+    adding_is_accepted_where_well_formed, edits_keep_sheets_standing,
+    removing_is_accepted_where_well_formed, setting_is_accepted_where_well_formed,
+    the_empty_sheet_stands,
 };
 pub use print::print_row;
-pub use print_laws::printed_rows_are_read_again;
 pub use read::read_row;
+pub use reading_laws::{printed_rows_are_read_again, rows_are_never_a_want_of_memory};
 pub use row::Row;
+pub use row_list::RowList;
 pub use sheet::Sheet;

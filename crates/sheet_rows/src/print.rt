@@ -1,5 +1,6 @@
 ghost use Rattle.std.specs.Prelude.{◌≡◌, ◌++◌, IfOk, OnOk};
 ghost use Rattle.sheet_rows.specs.Rows.{row_of};
+ghost use Rattle.sheet_rows.specs.Regular.{IsRegular};
 ghost use Rattle.sheet_rows.specs.Printing.{shape_text, printed};
 
 use crate::row::Row;
@@ -55,6 +56,7 @@ fn write_row(alloc: Global, out: &mut Bytes, row: &Row) -> Result<(), OutOfMemor
 ///
 /// [`OutOfMemory`] where there is no memory for the text.
 pub fn print_row(alloc: Global, row: &Row) -> Result<Bytes, OutOfMemory>
+    requires { IsRegular (row_of row.now) }
     ensures { IfOk result (λ text. text ≡ printed (row_of row.now)) }
 {
     let mut text = Bytes::new(alloc)?;

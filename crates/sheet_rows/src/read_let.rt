@@ -4,7 +4,8 @@
 ghost use Rattle.std.specs.Prelude.{◌≡◌, ◌+◌, ◌<◌, ◌≤◌, ◌^◌, true, length, drop, take, Ok, Err, IfOk, IfErr};
 ghost use Rattle.std.specs.List.{prefix_len};
 ghost use Rattle.formula_ast.specs.Names.{is_plain_name};
-ghost use Rattle.formula_ast.specs.Trees.{HasExponents};
+ghost use Rattle.formula_ast.specs.Printing.{print};
+ghost use Rattle.formula_ast.specs.Reading.{reading_of};
 ghost use Rattle.formula_ast.specs.Views.{tree_of};
 ghost use Rattle.sheet_rows.specs.Rows.{row_of};
 ghost use Rattle.sheet_rows.specs.Regular.{IsRegular};
@@ -116,7 +117,7 @@ fn located(fault: FormulaFault, at: usize) -> RowFault
 fn read_rest(alloc: Global, line: &[u8], at: usize) -> Result<Formula, RowFault>
     requires { at ≤ length line.now }
     ensures exact { GivesTree result (formula_at line.now at) }
-    ensures exponents { IfOk result (λ f. HasExponents (tree_of f)) }
+    ensures again { IfOk result (λ f. reading_of (print (tree_of f)) ≡ Ok (tree_of f)) }
 {
     match read_formula(alloc, behind(line, at)) {
         Ok(formula) => Ok(formula),

@@ -1,9 +1,9 @@
-ghost use Rattle.std.specs.Prelude.{◌≡◌, ◌≤◌, ◌<◌, ◌∷◌, ◌++◌, [], List, map, length, find, not, None, Some, Ok, remove, slice_get, slice_set, IfOk, OnOk, OnErr, IsNone};
+ghost use Rattle.std.specs.Prelude.{◌≡◌, ◌<◌, map, length, find, None, Some, remove, slice_get, IfOk, OnOk, OnErr};
 ghost use Rattle.std.specs.Option.{option_map};
-ghost use Rattle.sheet_rows.specs.Rows.{Row as SheetRow, row_of, name_of, names_used};
-ghost use Rattle.sheet_rows.specs.Sheets.{IsWellFormed, added, set_row, removed, unless, verdict_add, verdict_set, verdict_remove};
-ghost use Rattle.sheet_rows.specs.Places.{sheet_of, place_of, code_name, is_known_with, stands_before, IsVerdict};
-ghost use Rattle.sheet_rows.specs.declared.edit_fault.EditFault.TheVariants.{Unknown, NotEarlier};
+ghost use Rattle.sheet_rows.specs.Rows.{empty_sheet, row_of};
+ghost use Rattle.sheet_rows.specs.Regular.{IsStanding};
+ghost use Rattle.sheet_rows.specs.Sheets.{is_named, added, set_row};
+ghost use Rattle.sheet_rows.specs.Places.{place_of, code_name};
 
 use crate::row::Row;
 use decimal18::OutOfMemory;
@@ -13,8 +13,8 @@ use std::alloc::Global;
 use std::marker::Model;
 use std::rc::Rc;
 
-/// A list of rows, found by their places and by their names. Contracts see it as the list of its rows;
-/// copies of a sheet share them.
+/// A well-formed list of regular rows, found by their places and by their names. Copies of a sheet share
+/// its rows.
 #[derive(Drop)]
 pub struct Sheet {
     alloc: Global,
@@ -22,50 +22,52 @@ pub struct Sheet {
 }
 
 impl Model for Sheet {
-    ghost use Rattle.std.specs.Prelude.{◌≡◌, List, map};
-    ghost use Rattle.std.specs.Map.{keys_of};
-    ghost use Rattle.sheet_rows.specs.declared.row.Row.{Row};
-    ghost use Rattle.sheet_rows.specs.Places.{code_name};
-    ghost use Rattle.formula_ast.specs.contracts.formula.Formula as formula;
-    ghost use Rattle.std.specs.Coded.{codes};
+    ghost use Rattle.sheet_rows.specs.Rows.{Sheet};
+    ghost use Rattle.sheet_rows.specs.Codes.{coded_sheet};
 
-    ghost Value = { List Row };
+    ghost Value = { Sheet };
 
-    ghost coded = { Prim.hlevel (codes, formula.the_row.coded) };
+    ghost coded = { coded_sheet };
 
-    ghost view = { λ sheet. map (λ entry. entry.1.value) sheet.rows.entries };
+    ghost use Rattle.sheet_rows.specs.States.{sheet_of, IsSheet};
 
-    ghost invariant = { λ sheet. keys_of sheet.rows.entries ≡ map (λ entry. code_name entry.1.value) sheet.rows.entries };
+    ghost view = { sheet_of };
+
+    ghost invariant = { IsSheet };
 }
 
 impl Sheet {
     /// The sheet without rows.
-    pub fn new(alloc: Global) -> Sheet
-        ensures { result ≡ [] }
+    ///
+    /// # Errors
+    ///
+    /// [`OutOfMemory`] where there is no memory for it; it takes none yet.
+    pub fn new(alloc: Global) -> Result<Sheet, OutOfMemory>
+        ensures { IfOk result (λ sheet. sheet ≡ empty_sheet) }
     {
-        Sheet {
+        Ok(Sheet {
             alloc,
             rows: IndexMap::new(alloc),
-        }
+        })
     }
 
     /// The number of rows.
     pub fn len(&self) -> usize
-        ensures { result ≡ length self.now }
+        ensures { result ≡ length self.now.rows }
     {
         self.rows.len()
     }
 
     /// The place of the row of this name, counted from 0.
     pub fn place_of(&self, name: &Name) -> Option<usize>
-        ensures { result ≡ place_of (sheet_of self.now) name.now }
+        ensures { result ≡ place_of self.now name.now }
     {
         self.rows.get_index_of(name)
     }
 
     /// The row at this place, counted from 0.
     pub fn row_at(&self, at: usize) -> Option<&Rc<Row>>
-        ensures { option_map (λ row. row.now.value) result ≡ slice_get self.now at }
+        ensures { option_map (λ row. row_of row.now.value) result ≡ slice_get self.now.rows at }
     {
         match self.rows.get_index(at) {
             Some((_, row)) => Some(row),
@@ -73,9 +75,10 @@ impl Sheet {
         }
     }
 
-    /// The rows in order.
+    /// The rows in order. They are regular, and the sheet is well formed.
     pub fn rows(&self) -> &[Rc<Row>]
-        ensures { map (λ row. row.value) result.now ≡ self.now }
+        ensures rows { map (λ row. row_of row.value) result.now ≡ self.now.rows }
+        ensures standing { IsStanding self.now }
     {
         self.rows.values().as_slice()
     }
@@ -101,8 +104,9 @@ impl Sheet {
     // Puts a row of a new name last.
     pub(crate) fn push(&mut self, name: Name, row: Rc<Row>) -> Result<(), OutOfMemory>
         requires named { name ≡ code_name row.value }
-        requires new { place_of (sheet_of self.old) name ≡ None }
-        ensures ok { OnOk result (self.new ≡ self.old ++ row.value ∷ []) }
+        requires new { place_of self.old name ≡ None }
+        requires standing { IsStanding (added self.old (row_of row.value)) }
+        ensures ok { OnOk result (self.new ≡ added self.old (row_of row.value)) }
         ensures err { OnErr result (self.new ≡ self.old) }
     {
         self.rows.insert(name, row)?;
@@ -111,18 +115,20 @@ impl Sheet {
 
     // Puts the row in the place of one of the same name, and hands that out.
     pub(crate) fn exchange(&mut self, at: usize, row: Rc<Row>) -> Rc<Row>
-        requires { option_map code_name (slice_get self.old at) ≡ Some (code_name row.value) }
-        ensures old { slice_get self.old at ≡ Some result.value }
-        ensures new { self.new ≡ slice_set self.old at row.value }
+        requires there { place_of self.old (code_name row.value) ≡ Some at }
+        requires standing { IsStanding (set_row (row_of row.value) self.old) }
+        ensures old { find (is_named (code_name row.value)) self.old.rows ≡ Some (row_of result.value) }
+        ensures new { self.new ≡ set_row (row_of row.value) self.old }
     {
         std::mem::replace(&mut self.rows[at], row)
     }
 
     // Takes the row at a place out, and hands it out.
     pub(crate) fn withdraw(&mut self, at: usize) -> Rc<Row>
-        requires { at < length self.old }
-        ensures old { slice_get self.old at ≡ Some result.value }
-        ensures new { self.new ≡ remove self.old at }
+        requires within { at < length self.old.rows }
+        requires standing { IsStanding (record { rows = remove self.old.rows at }) }
+        ensures old { slice_get self.old.rows at ≡ Some (row_of result.value) }
+        ensures new { self.new.rows ≡ remove self.old.rows at }
     {
         self.rows.shift_remove_index(at).unwrap().1
     }

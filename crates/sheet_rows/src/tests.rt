@@ -1,41 +1,25 @@
-ghost use Rattle.sheet_rows.specs.Sheets.{IsWellFormed};
-ghost use Rattle.sheet_rows.specs.Places.{sheet_of};
+ghost use Rattle.std.specs.Prelude.{IfOk};
+ghost use Rattle.sheet_rows.specs.Rows.{row_of};
+ghost use Rattle.sheet_rows.specs.Regular.{IsRegular};
 
-use crate::{EditFault, Row, Sheet};
-use decimal18::Dec;
-use formula_ast::{Name, read_formula};
+use crate::{EditFault, Row, Sheet, read_row};
+use formula_ast::Name;
 use std::alloc::Global;
 use std::process::Abort;
-use std::rc::Rc;
 use std::test::Fail;
-use type_b::{Dof, Shape};
 
 fn name_of(text: &str) -> Result<Name, &'static str> {
     Name::new(text.as_bytes()).ok_or("not a name")
 }
 
-// A given row without uncertainty.
-fn given(text: &str) -> Result<Row, &'static str> {
-    let estimate = Dec::new(1, 0).ok_or("not a bound")?;
-    Ok(Row::Given {
-        name: name_of(text)?,
-        estimate,
-        shape: Shape::Exact,
-        dof: Dof::Inf,
-    })
-}
-
-fn formula(alloc: Global, text: &str, body: &str) -> Result<Row, &'static str> {
-    let Ok(tree) = read_formula(alloc, body.as_bytes()) else {
-        return Err("not a formula");
-    };
-    let Ok(formula) = Rc::new(alloc, tree) else {
-        return Err("no memory");
-    };
-    Ok(Row::Formula {
-        name: name_of(text)?,
-        formula,
-    })
+// The row that the line gives.
+fn row_of(alloc: Global, line: &[u8]) -> Result<Row, &'static str>
+    ensures { IfOk result (λ row. IsRegular (row_of row)) }
+{
+    match read_row(alloc, line, 0) {
+        Ok(row) => Ok(row),
+        Err(_) => Err("not a row"),
+    }
 }
 
 #[derive(Clone, Copy)]
@@ -54,43 +38,36 @@ enum Outcome {
     InUse(&'static str),
 }
 
-// An edit, the name and the formula of its row (an input has none), what comes of it, and how many rows
-// there are then.
-type Case = (Kind, &'static str, &'static str, Outcome, usize);
+// An edit, the line that gives its row or the name of the row that is removed, what comes of it, and how many
+// rows there are then.
+type Case = (Kind, &'static str, Outcome, usize);
 
 const CASES: [Case; 24] = [
-    (Kind::Add, "A", "A + 1", Outcome::NotEarlier("A"), 0),
-    (Kind::Add, "A", "B", Outcome::Unknown("B"), 0),
-    (Kind::Add, "A", "", Outcome::Fine, 1),
-    (Kind::Add, "a", "", Outcome::Fine, 2),
-    (Kind::Add, "A", "", Outcome::Duplicate("A"), 2),
-    (Kind::Add, "A", "Z", Outcome::Duplicate("A"), 2),
-    (Kind::Add, "B", "A + a * A", Outcome::Fine, 3),
-    (Kind::Add, "C", "-(B - B)^2", Outcome::Fine, 4),
-    (Kind::Add, "D", "D + Z + Y", Outcome::Unknown("Z"), 4),
-    (Kind::Add, "D", "A + D", Outcome::NotEarlier("D"), 4),
-    (Kind::Set, "Q", "Z", Outcome::Unknown("Q"), 4),
-    (Kind::Set, "B", "C + Q", Outcome::Unknown("Q"), 4),
-    (Kind::Set, "B", "A + C + B", Outcome::NotEarlier("C"), 4),
-    (Kind::Set, "A", "a", Outcome::NotEarlier("a"), 4),
-    (Kind::Set, "A", "2^3", Outcome::Fine, 4),
-    (Kind::Remove, "A", "", Outcome::InUse("B"), 4),
-    (Kind::Set, "A", "", Outcome::Fine, 4),
-    (Kind::Remove, "a", "", Outcome::InUse("B"), 4),
-    (Kind::Remove, "B", "", Outcome::InUse("C"), 4),
-    (Kind::Remove, "Q", "", Outcome::Unknown("Q"), 4),
-    (Kind::Remove, "C", "", Outcome::Fine, 3),
-    (Kind::Remove, "B", "", Outcome::Fine, 2),
-    (Kind::Set, "a", "A / 3", Outcome::Fine, 2),
-    (Kind::Remove, "A", "", Outcome::InUse("a"), 2),
+    (Kind::Add, "let A = A + 1", Outcome::NotEarlier("A"), 0),
+    (Kind::Add, "let A = B", Outcome::Unknown("B"), 0),
+    (Kind::Add, "given A 1 exact", Outcome::Fine, 1),
+    (Kind::Add, "given a 1 exact", Outcome::Fine, 2),
+    (Kind::Add, "given A 1 exact", Outcome::Duplicate("A"), 2),
+    (Kind::Add, "let A = Z", Outcome::Duplicate("A"), 2),
+    (Kind::Add, "let B = A + a * A", Outcome::Fine, 3),
+    (Kind::Add, "let C = -(B - B)^2", Outcome::Fine, 4),
+    (Kind::Add, "let D = D + Z + Y", Outcome::Unknown("Z"), 4),
+    (Kind::Add, "let D = A + D", Outcome::NotEarlier("D"), 4),
+    (Kind::Set, "let Q = Z", Outcome::Unknown("Q"), 4),
+    (Kind::Set, "let B = C + Q", Outcome::Unknown("Q"), 4),
+    (Kind::Set, "let B = A + C + B", Outcome::NotEarlier("C"), 4),
+    (Kind::Set, "let A = a", Outcome::NotEarlier("a"), 4),
+    (Kind::Set, "let A = 2^3", Outcome::Fine, 4),
+    (Kind::Remove, "A", Outcome::InUse("B"), 4),
+    (Kind::Set, "given A 1 exact", Outcome::Fine, 4),
+    (Kind::Remove, "a", Outcome::InUse("B"), 4),
+    (Kind::Remove, "B", Outcome::InUse("C"), 4),
+    (Kind::Remove, "Q", Outcome::Unknown("Q"), 4),
+    (Kind::Remove, "C", Outcome::Fine, 3),
+    (Kind::Remove, "B", Outcome::Fine, 2),
+    (Kind::Set, "let a = A / 3", Outcome::Fine, 2),
+    (Kind::Remove, "A", Outcome::InUse("a"), 2),
 ];
-
-fn row(alloc: Global, name: &str, body: &str) -> Result<Row, &'static str> {
-    if body.is_empty() {
-        return given(name);
-    }
-    formula(alloc, name, body)
-}
 
 fn fault_of(outcome: Outcome) -> Result<Option<EditFault>, &'static str> {
     match outcome {
@@ -102,48 +79,25 @@ fn fault_of(outcome: Outcome) -> Result<Option<EditFault>, &'static str> {
     }
 }
 
-fn add(sheet: &mut Sheet, row: Row) -> Option<EditFault>
-    requires { IsWellFormed (sheet_of sheet.old) }
-    ensures { IsWellFormed (sheet_of sheet.new) }
-{
-    sheet.try_add(row).err()
+fn add(sheet: &mut Sheet, alloc: Global, line: &[u8]) -> Result<Option<EditFault>, &'static str> {
+    Ok(sheet.try_add(row_of(alloc, line)?).err())
 }
 
-fn set(sheet: &mut Sheet, row: Row) -> Option<EditFault>
-    requires { IsWellFormed (sheet_of sheet.old) }
-    ensures { IsWellFormed (sheet_of sheet.new) }
-{
-    sheet.try_set(row).err()
-}
-
-fn remove(sheet: &mut Sheet, name: &Name) -> Option<EditFault>
-    requires { IsWellFormed (sheet_of sheet.old) }
-    ensures { IsWellFormed (sheet_of sheet.new) }
-{
-    sheet.try_remove(name).err()
+fn set(sheet: &mut Sheet, alloc: Global, line: &[u8]) -> Result<Option<EditFault>, &'static str> {
+    Ok(sheet.try_set(row_of(alloc, line)?).err())
 }
 
 fn edit(
     sheet: &mut Sheet,
     alloc: Global,
     kind: Kind,
-    name: &str,
-    body: &str,
-) -> Result<Option<EditFault>, &'static str>
-    requires { IsWellFormed (sheet_of sheet.old) }
-    ensures { IsWellFormed (sheet_of sheet.new) }
-{
+    text: &str,
+) -> Result<Option<EditFault>, &'static str> {
     match kind {
-        Kind::Add => Ok(add(sheet, row(alloc, name, body)?)),
-        Kind::Set => Ok(set(sheet, row(alloc, name, body)?)),
-        Kind::Remove => Ok(remove(sheet, &name_of(name)?)),
+        Kind::Add => add(sheet, alloc, text.as_bytes()),
+        Kind::Set => set(sheet, alloc, text.as_bytes()),
+        Kind::Remove => Ok(sheet.try_remove(&name_of(text)?).err()),
     }
-}
-
-fn empty(alloc: Global) -> Sheet
-    ensures { IsWellFormed (sheet_of result) }
-{
-    Sheet::new(alloc)
 }
 
 // Whether the fault is the outcome.
@@ -151,11 +105,9 @@ fn is_outcome(fault: Option<EditFault>, outcome: Outcome) -> Result<bool, &'stat
     Ok(fault == fault_of(outcome)?)
 }
 
-fn run_cases(sheet: &mut Sheet, alloc: Global) -> Result<(), &'static str>
-    requires { IsWellFormed (sheet_of sheet.old) }
-{
-    for (kind, name, body, outcome, rows) in CASES {
-        let fault = edit(sheet, alloc, kind, name, body)?;
+fn run_cases(sheet: &mut Sheet, alloc: Global) -> Result<(), &'static str> {
+    for (kind, text, outcome, rows) in CASES {
+        let fault = edit(sheet, alloc, kind, text)?;
         if !is_outcome(fault, outcome)? {
             return Err("another outcome");
         }
@@ -168,7 +120,7 @@ fn run_cases(sheet: &mut Sheet, alloc: Global) -> Result<(), &'static str>
 
 #[test]
 fn refusals_leave_the_sheet(rt: HostRuntime) -> Result<(), Fail> {
-    let mut sheet = empty(rt.alloc());
+    let mut sheet = Sheet::new(rt.alloc())?;
     run_cases(&mut sheet, rt.alloc())?;
     Ok(())
 }
@@ -177,30 +129,19 @@ fn place(sheet: &Sheet, name: &str) -> Result<Option<usize>, &'static str> {
     Ok(sheet.place_of(&name_of(name)?))
 }
 
-// A name of a letter and four digits.
-fn numbered(number: u16) -> [u8; 5] {
-    [
-        b'N',
-        b'0' + (number / 1000 % 10) as u8,
-        b'0' + (number / 100 % 10) as u8,
-        b'0' + (number / 10 % 10) as u8,
-        b'0' + (number % 10) as u8,
-    ]
+// An input whose name is a letter and four digits.
+fn numbered(number: u16) -> [u8; 19] {
+    let mut line = *b"given N0000 1 exact";
+    line[7] = b'0' + (number / 1000 % 10) as u8;
+    line[8] = b'0' + (number / 100 % 10) as u8;
+    line[9] = b'0' + (number / 10 % 10) as u8;
+    line[10] = b'0' + (number % 10) as u8;
+    line
 }
 
-fn numbered_row(number: u16) -> Result<Row, &'static str> {
-    Ok(Row::Given {
-        name: Name::new(&numbered(number)).ok_or("not a name")?,
-        estimate: Dec::new(1, 0).ok_or("not a bound")?,
-        shape: Shape::Exact,
-        dof: Dof::Inf,
-    })
-}
-
-fn fill(sheet: &mut Sheet) -> Result<(), &'static str> {
+fn fill(sheet: &mut Sheet, alloc: Global) -> Result<(), &'static str> {
     for number in 0..4096u16 {
-        let added = sheet.try_add(numbered_row(number)?);
-        if added.is_err() {
+        if add(sheet, alloc, &numbered(number))? != None {
             return Err("refused");
         }
     }
@@ -209,9 +150,10 @@ fn fill(sheet: &mut Sheet) -> Result<(), &'static str> {
 
 #[test]
 fn a_sheet_has_a_last_row(rt: HostRuntime) -> Result<(), Fail> {
-    let mut sheet = Sheet::new(rt.alloc());
-    fill(&mut sheet)?;
-    assert_eq!(rt; sheet.try_add(given("N0000")?), Err(EditFault::RowsFull));
+    let mut sheet = Sheet::new(rt.alloc())?;
+    fill(&mut sheet, rt.alloc())?;
+    let full = add(&mut sheet, rt.alloc(), &numbered(0))?;
+    assert_eq!(rt; full, Some(EditFault::RowsFull));
     assert_eq!(rt; sheet.len(), 4096);
     assert_eq!(rt; place(&sheet, "N4095")?, Some(4095));
     Ok(())
@@ -238,10 +180,11 @@ fn name_at(sheet: &Sheet, at: usize) -> Option<Name> {
 
 #[test]
 fn a_removed_row_is_handed_out(rt: HostRuntime) -> Result<(), Fail> {
-    let mut sheet = empty(rt.alloc());
+    let mut sheet = Sheet::new(rt.alloc())?;
     let (x, y) = (name_of("X")?, name_of("Y")?);
-    let added = (add(&mut sheet, given("X")?), add(&mut sheet, given("Y")?));
-    assert_eq!(rt; added, (None, None));
+    for line in [b"given X 1 exact", b"given Y 1 exact"] {
+        assert_eq!(rt; add(&mut sheet, rt.alloc(), line)?, None);
+    }
     assert_eq!(rt; removal(&mut sheet, &x), Ok((0, x, 2)));
     assert_eq!(rt; (name_at(&sheet, 0), name_at(&sheet, 1)), (Some(y), None));
     Ok(())

@@ -1,13 +1,18 @@
 -- How an input's uncertainty is stated, and its variance (JCGM 100:2008, 4.3).
 use Rattle.std.specs.Prelude.{ℕ, Bool, true, false, if◌then◌else◌, Option, Some, Result, Ok, Err, ℤ, pos, negsuc}
 use Rattle.exact_fraction.specs.Number.{ℚ, of_ℤ, ◌*ℚ◌}
-use Rattle.decimal18.specs.Bound.{Bound, value_of}
+use Rattle.decimal18.specs.Bound.{Bound, IsDecimal, value_of}
 use Rattle.fixed_interval.specs.Interval.{Interval, point_span}
 use Rattle.fixed_interval.specs.Rules.{zero_bound, square_span}
 use Rattle.type_b.specs.declared.shape.Shape.{Shape}
 use Rattle.type_b.specs.declared.shape.Shape.TheVariants.{Exact, Std}
 use Rattle.type_b.specs.declared.shape.ShapeFault.{ShapeFault}
 use Rattle.type_b.specs.declared.shape.ShapeFault.TheVariants.{Negative}
+
+-- its numbers are bounds in canonical form
+abbrev pub HasDecimals : Shape → Type 0
+HasDecimals Exact = Unit {0}
+HasDecimals (Std u) = IsDecimal u
 
 -- a number below 0 has a negative coefficient
 abbrev pub below_zero : ℤ → Bool

@@ -1,18 +1,30 @@
-use Rattle.std.proofs.Common.{◌∙◌, ap, Ok}
+use Rattle.std.proofs.Common.{◌∙◌, ap, sym, Ok}
+use Rattle.std.specs.Prelude.{find, bytes_eq}
+use Rattle.std.specs.List.{list_any}
+use Rattle.std.specs.Option.{option_map}
+use Rattle.sheet_rows.specs.Rows.{name_of, used_names}
 use Rattle.sheet_rows.specs.Sheets.{unless, removed}
-use Rattle.sheet_rows.specs.Places.{sheet_of}
 use Rattle.sheet_rows.specs.declared.edit_fault.EditFault.TheVariants.{InUse}
-use Rattle.sheet_rows.proofs.Verdicts.{remove_by_users, users_in}
+use Rattle.sheet_rows.proofs.Verdicts.{remove_by_users}
+use Rattle.sheet_rows.proofs.Keeping.{remove_stands}
 use Rattle.sheet_rows.proofs.sheet.Sheet.check_removed.Goals as goal
 
-pub returns-in-Some : goal.returns-in-Some
-returns-in-Some c =
-    let sheet = sheet_of c.args.self.now in
-    let users = users_in (λ r. r.value) c.rows.result.now c.args.self.now c.args.name.now c.first_user.result c.first_user.ensures c.rows.ensures in
-    remove_by_users sheet c.args.name.now c.args.at c.requires ∙ ap (λ u. unless u InUse (Ok (removed c.args.name.now sheet))) (users ∙ c.in-Some.is)
+pub returns-in-Some-clause-verdict : goal.returns-in-Some-clause-verdict
+returns-in-Some-clause-verdict c =
+    let sheet = c.args.self.now in
+    let n = c.args.name.now in
+    let users = ap (λ rows. option_map name_of (find (λ other. list_any (bytes_eq n) (used_names other)) rows)) (sym c.rows.ensures.rows) ∙ sym c.first_user.ensures in
+    sym (remove_by_users sheet n c.args.at c.requires ∙ ap (λ u. unless u InUse (Ok (removed n sheet))) (users ∙ c.in-Some.is))
 
-pub returns-in-None : goal.returns-in-None
-returns-in-None c =
-    let sheet = sheet_of c.args.self.now in
-    let users = users_in (λ r. r.value) c.rows.result.now c.args.self.now c.args.name.now c.first_user.result c.first_user.ensures c.rows.ensures in
-    remove_by_users sheet c.args.name.now c.args.at c.requires ∙ ap (λ u. unless u InUse (Ok (removed c.args.name.now sheet))) (users ∙ c.in-None.is)
+pub returns-in-None-clause-verdict : goal.returns-in-None-clause-verdict
+returns-in-None-clause-verdict c =
+    let sheet = c.args.self.now in
+    let n = c.args.name.now in
+    let users = ap (λ rows. option_map name_of (find (λ other. list_any (bytes_eq n) (used_names other)) rows)) (sym c.rows.ensures.rows) ∙ sym c.first_user.ensures in
+    sym (remove_by_users sheet n c.args.at c.requires ∙ ap (λ u. unless u InUse (Ok (removed n sheet))) (users ∙ c.in-None.is))
+
+pub returns-in-None-clause-standing : goal.returns-in-None-clause-standing
+returns-in-None-clause-standing c =
+    let sheet = c.args.self.now in
+    let n = c.args.name.now in
+    remove_stands sheet (removed n sheet) n c.rows.ensures.standing (sym (returns-in-None-clause-verdict c))

@@ -1,11 +1,23 @@
-use Rattle.std.proofs.Common.{rules}
-use Rattle.sheet_rows.proofs.Entries.{copied_rows, copied_names}
+use Rattle.std.proofs.Common.{rules, List, ◌∙◌, ap, sym, subst}
+use Rattle.sheet_rows.specs.Rows.{Row, row_of}
+use Rattle.sheet_rows.specs.Regular.{IsStanding}
+use Rattle.sheet_rows.proofs.Entries.{of_rows, copied_rows, copied_names}
 use Rattle.sheet_rows.proofs.sheet.Sheet.copy.Goals as goal
 
 pub invariant_of-result : goal.invariant_of-result
 invariant_of-result c =
-    copied_names (λ r. r.value) _ _ (search rules) (search rules) c.self.inside.rows.entries c.in_ok-clone.field-0.entries c.in_ok-clone.ensures.cases c.self.invariant
+    let es = c.self.inside.rows.entries in
+    record {
+      names =
+          copied_names (λ r. row_of r.value) _ _ (search rules) (search rules) es c.in_ok-clone.field-0.entries c.in_ok-clone.ensures.cases
+          c.self.invariant.names;
+      standing =
+          subst (λ (rows : List Row). IsStanding (of_rows rows))
+          (sym (copied_rows (λ r. row_of r.value) _ _ (search rules) (search rules) es c.in_ok-clone.field-0.entries c.in_ok-clone.ensures.cases))
+          c.self.invariant.standing;
+    }
 
 pub returns : goal.returns
 returns c =
-    rw (← c.self.view_is) (copied_rows (λ r. r.value) _ _ (search rules) (search rules) c.self.inside.rows.entries c.in_ok-clone.field-0.entries c.in_ok-clone.ensures.cases)
+    ap of_rows (copied_rows (λ r. row_of r.value) _ _ (search rules) (search rules) c.self.inside.rows.entries c.in_ok-clone.field-0.entries c.in_ok-clone.ensures.cases)
+    ∙ c.self.view_is

@@ -1,4 +1,5 @@
--- Rows have codes, by which a proof tells them apart: a formula is written behind its parts, without parentheses.
+-- Rows and sheets have codes, by which a proof tells them apart: a formula is written behind its parts, without
+-- parentheses.
 use Rattle.std.specs.Prelude.{◌≡◌, ℕ, zero, suc, ℤ, List, [], ◌∷◌, ◌++◌, Option, Some, None, refl}
 use Rattle.std.specs.Coded.{Coded, code_by, coded×, coded⊎, coded_list, coded_option, coded_ℕ, coded_ℤ}
 use Rattle.std.proofs.Common.{◌⊎◌, inl, inr, sym, ◌∙◌, ap}
@@ -10,7 +11,7 @@ use Rattle.type_b.specs.declared.shape.Dof.TheVariants.{Inf}
 use Rattle.formula_ast.specs.Trees.{Tree, Number, Variable, Opposite, Joined, Raised}
 use Rattle.formula_ast.specs.declared.token.Sign.{Sign}
 use Rattle.formula_ast.specs.declared.token.Sign.TheVariants.{Plus, Minus, Times, Over}
-use Rattle.sheet_rows.specs.Rows.{Row, Given, Formula}
+use Rattle.sheet_rows.specs.Rows.{Row, Given, Formula, Sheet}
 
 coded_bound : Coded Bound
 coded_bound = code_by (ℤ × ℕ) (coded× coded_ℤ coded_ℕ) (λ b. (b.coefficient, b.places)) (λ p. scaled p.0 p.1) (λ _. refl)
@@ -157,3 +158,7 @@ coded_row =
     code_by Fields
     (coded⊎ (coded× (coded_list coded_ℕ) (coded× coded_bound (coded_option coded_bound))) (coded× (coded_list coded_ℕ) coded_tree))
     fields_of row_of_fields row_again
+
+-- ---- sheets
+pub coded_sheet : Coded Sheet
+coded_sheet = code_by (List Row) (coded_list coded_row) (λ sheet. sheet.rows) (λ rows. record { rows = rows }) (λ _. refl)

@@ -1,8 +1,8 @@
-ghost use Rattle.std.specs.Prelude.{◌≡◌, [], ◌∷◌, ◌++◌, map, OnOk, OnErr};
+ghost use Rattle.std.specs.Prelude.{◌≡◌, [], ◌∷◌, ◌++◌, map, IfOk, OnOk, OnErr};
 ghost use Rattle.sheet_rows.specs.Rows.{row_of};
 
+use crate::row::Row;
 use decimal18::OutOfMemory;
-use sheet_rows::Row;
 use std::alloc::Global;
 use std::marker::Model;
 use std::rc::Rc;
@@ -17,7 +17,7 @@ impl Model for RowList {
     ghost use Rattle.std.specs.Prelude.{List, map};
     ghost use Rattle.std.specs.Coded.{coded_list};
     ghost use Rattle.sheet_rows.specs.Rows.{Row, row_of};
-    ghost use Rattle.answers.specs.Codes.{coded_row};
+    ghost use Rattle.sheet_rows.specs.Codes.{coded_row};
 
     ghost Value = { List Row };
 
@@ -27,13 +27,17 @@ impl Model for RowList {
 }
 
 impl RowList {
-    /// The list without rows. It takes no memory yet.
-    pub fn new(alloc: Global) -> RowList
-        ensures { result ≡ [] }
+    /// The list without rows.
+    ///
+    /// # Errors
+    ///
+    /// [`OutOfMemory`] where there is no memory for it; it takes none yet.
+    pub fn new(alloc: Global) -> Result<RowList, OutOfMemory>
+        ensures { IfOk result (λ rows. rows ≡ []) }
     {
-        RowList {
+        Ok(RowList {
             vec: Vec::new(alloc),
-        }
+        })
     }
 
     /// Puts `row` at the end.

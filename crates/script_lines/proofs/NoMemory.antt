@@ -1,0 +1,99 @@
+-- What an item is as a command is no want of memory.
+use Rattle.std.proofs.Common.{◌≡◌, ◌≢◌, ℕ, ◌+◌, Bool, true, false, cond, List, [], ◌∷◌, length, Some, Ok, Err, refl, subst}
+use Rattle.std.specs.Prelude.{bytes_eq, codes}
+use Rattle.formula_ast.specs.Names.{is_plain_name, is_name}
+use Rattle.line_words.specs.Words.{Word, words_from, written_part}
+use Rattle.sheet_rows.specs.Rows.{Row}
+use Rattle.sheet_rows.specs.Reading.{Read as ReadRow, row_read}
+use Rattle.sheet_rows.specs.declared.fault.RowFault.{RowFault}
+use Rattle.sheet_rows.specs.declared.fault.RowFault.TheVariants.{OutOfMemory as RowMemory}
+use Rattle.sheet_rows.proofs.NoMemory.{never_memory as row_never}
+use Rattle.answers.specs.Commands.{Add, Set, Remove, Change, Undo, Redo, Mark, Restore, Ask, AskAt}
+use Rattle.answers.specs.declared.command.Query.TheVariants.{Value, Dump}
+use Rattle.answers.specs.declared.fault.LineFault.{LineFault}
+use Rattle.answers.specs.declared.fault.LineFault.TheVariants.{Syntax, Row as RowRefused, LongLine as TooLong, NotBuilt, OutOfMemory}
+use Rattle.script_lines.specs.declared.item.Item.{Item}
+use Rattle.script_lines.specs.declared.item.Item.TheVariants.{Line, LongLine}
+use Rattle.script_lines.specs.declared.verb.Verb.{Verb}
+use Rattle.script_lines.specs.declared.verb.Verb.TheVariants.{Set as SetVerb, Remove as RemoveVerb, Undo as UndoVerb, Redo as RedoVerb, Mark as MarkVerb, Restore as RestoreVerb, At as AtVerb, Ask as AskVerb, Row as RowVerb}
+use Rattle.script_lines.specs.Commands.{Read, mapped, alone, no_more, sole_name, is_other_query, value_query, query_with, query_of, query_at, verb_of, row_of_line, command_with, line_with, line_read, command_read}
+
+abbrev IsNoMemory : LineFault → Type 0
+IsNoMemory OutOfMemory = ⊥
+IsNoMemory (RowRefused fault) = fault ≢ RowMemory
+IsNoMemory (Syntax at) = Unit {0}
+IsNoMemory TooLong = Unit {0}
+IsNoMemory NotBuilt = Unit {0}
+
+abbrev IfFailed : {A : Type 0} → Read A → Type 0
+IfFailed (Ok x) = Unit {0}
+IfFailed (Err fault) = IsNoMemory fault
+
+mapped_failed : {A B : Type 0} (make : A → B) (r : Read A) → IfFailed r → IfFailed (mapped make r)
+mapped_failed make (Ok x) h = tt
+mapped_failed make (Err fault) h = h
+
+cond_failed : {A : Type 0} (t : Bool) (a b : Read A) → IfFailed a → IfFailed b → IfFailed (cond t a b)
+cond_failed true a b h k = h
+cond_failed false a b h k = k
+
+alone_failed : {A : Type 0} (x : A) (ws : List Word) → IfFailed (alone x ws)
+alone_failed x [] = tt
+alone_failed x (w ∷ ws) = tt
+
+name_failed : (end : ℕ) (ws : List Word) → IfFailed (sole_name end ws)
+name_failed end [] = tt
+name_failed end (w ∷ ws) = cond_failed (is_plain_name w.text) (alone w.text ws) (Err (Syntax (w.place + 1))) (alone_failed w.text ws) tt
+
+value_failed : (end : ℕ) (ws : List Word) → IfFailed (value_query end ws)
+value_failed end [] = tt
+value_failed end (w ∷ ws) = cond_failed (is_name w.text) (alone (Value w.text) ws) (Err (Syntax (w.place + 1))) (alone_failed (Value w.text) ws) tt
+
+query_failed : (end : ℕ) (w : Word) (ws : List Word) → IfFailed (query_with end w ws)
+query_failed end w ws =
+    cond_failed (bytes_eq w.text (codes "value")) (value_query end ws) _ (value_failed end ws)
+    (cond_failed (bytes_eq w.text (codes "dump")) (alone Dump ws) _ (alone_failed Dump ws)
+    (cond_failed (is_other_query w.text) (Err NotBuilt) (Err (Syntax (w.place + 1))) tt tt))
+
+query_of_failed : (end : ℕ) (ws : List Word) → IfFailed (query_of end ws)
+query_of_failed end [] = tt
+query_of_failed end (w ∷ ws) = query_failed end w ws
+
+query_at_failed : (end : ℕ) (ws : List Word) → IfFailed (query_at end ws)
+query_at_failed end [] = tt
+query_at_failed end (w ∷ ws) =
+    cond_failed (is_plain_name w.text) (mapped (λ query. (w.text, query)) (query_of end ws)) (Err (Syntax (w.place + 1)))
+    (mapped_failed (λ query. (w.text, query)) (query_of end ws) (query_of_failed end ws)) tt
+
+row_failed : (r : ReadRow Row) → r ≢ Err RowMemory → IfFailed (row_of_line r)
+row_failed (Ok row) h = tt
+row_failed (Err fault) h = λ e. h (subst (λ (f : RowFault). let r : ReadRow Row = Err f in Err fault ≡ r) e refl)
+
+command_failed : (verb : Verb) (line : List ℕ) (end : ℕ) (w : Word) (ws : List Word) → IfFailed (command_with verb line end w ws)
+command_failed SetVerb line end w ws =
+    mapped_failed (λ row. Change (Set row)) (row_of_line (row_read line (w.place + length w.text)))
+    (row_failed (row_read line (w.place + length w.text)) (row_never line (w.place + length w.text)))
+command_failed RemoveVerb line end w ws = mapped_failed (λ name. Change (Remove name)) (sole_name end ws) (name_failed end ws)
+command_failed UndoVerb line end w ws = mapped_failed (λ done. Undo) (no_more ws) (alone_failed tt ws)
+command_failed RedoVerb line end w ws = mapped_failed (λ done. Redo) (no_more ws) (alone_failed tt ws)
+command_failed MarkVerb line end w ws = mapped_failed Mark (sole_name end ws) (name_failed end ws)
+command_failed RestoreVerb line end w ws = mapped_failed Restore (sole_name end ws) (name_failed end ws)
+command_failed AtVerb line end w ws = mapped_failed (λ asked. AskAt asked.0 asked.1) (query_at end ws) (query_at_failed end ws)
+command_failed AskVerb line end w ws = mapped_failed Ask (query_with end w ws) (query_failed end w ws)
+command_failed RowVerb line end w ws =
+    mapped_failed (λ row. Change (Add row)) (row_of_line (row_read line 0)) (row_failed (row_read line 0) (row_never line 0))
+
+line_failed : (line : List ℕ) (end : ℕ) (ws : List Word) → IfFailed (line_with line end ws)
+line_failed line end [] = tt
+line_failed line end (w ∷ ws) = mapped_failed Some (command_with (verb_of w.text) line end w ws) (command_failed (verb_of w.text) line end w ws)
+
+item_failed : (item : Item) → IfFailed (command_read item)
+unfolding line_read
+item_failed LongLine = tt
+item_failed (Line line) = line_failed line (length (written_part line)) (words_from (written_part line) 0)
+
+pub never_memory : (item : Item) → command_read item ≢ Err OutOfMemory
+never_memory item h = subst IfFailed h (item_failed item)
+
+pub never_row_memory : (item : Item) → command_read item ≢ Err (RowRefused RowMemory)
+never_row_memory item h = subst IfFailed h (item_failed item) refl

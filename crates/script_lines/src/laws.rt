@@ -1,0 +1,14 @@
+//! What holds of the lines of a script. The function has an empty body, and its clauses are a theorem on the
+//! definitions.
+
+ghost use Rattle.std.specs.Prelude.{◌≢◌, Err};
+ghost use Rattle.sheet_rows.specs.declared.fault.RowFault.{RowFault};
+ghost use Rattle.answers.specs.declared.fault.LineFault.{LineFault};
+ghost use Rattle.script_lines.specs.declared.item.Item.{Item};
+ghost use Rattle.script_lines.specs.Commands.{command_read};
+
+/// What an item is, is a command or a refusal, and no want of memory.
+pub fn commands_are_never_a_want_of_memory()
+    ensures line { (item : Item) → command_read item ≢ Err LineFault.OutOfMemory }
+    ensures row { (item : Item) → command_read item ≢ Err (LineFault.Row RowFault.OutOfMemory) }
+{}

@@ -1,0 +1,118 @@
+-- What a line gives as a row is no want of memory.
+use Rattle.std.proofs.Common.{◌≡◌, ◌≢◌, ℕ, Bool, true, false, cond, List, [], ◌∷◌, ◌+◌, length, drop, Result, Ok, Err, refl, subst}
+use Rattle.std.specs.Prelude.{codes, bytes_eq}
+use Rattle.decimal18.specs.Bound.{Bound}
+use Rattle.decimal18.specs.Literal.{parsed}
+use Rattle.decimal18.specs.declared.literal.NumFault.{NumFault}
+use Rattle.decimal18.specs.declared.literal.NumFault.TheVariants.{NotNumber as NoLiteral, NumberRange as NoBound}
+use Rattle.formula_ast.specs.Names.{is_plain_name}
+use Rattle.formula_ast.specs.Trees.{Tree}
+use Rattle.formula_ast.specs.Reading.{reading_of}
+use Rattle.formula_ast.specs.declared.fault.FormulaFault.{FormulaFault}
+use Rattle.formula_ast.specs.declared.fault.FormulaFault.TheVariants.{Syntax as FormulaSyntax, UnknownFunction as FormulaFunction, Number as FormulaNumber, BadPower as FormulaPower, TooDeep as FormulaDeep, TooMany as FormulaMany, OutOfMemory as FormulaMemory}
+use Rattle.formula_ast.proofs.NoMemory.{never_memory as formula_never}
+use Rattle.line_words.specs.Words.{Word, written_part, words_from}
+use Rattle.type_b.specs.Shapes.{checked}
+use Rattle.type_b.specs.declared.shape.ShapeFault.{ShapeFault}
+use Rattle.sheet_rows.specs.Reading.{Read, then_read, plain_word, number_in, number_word, is_other_shape, is_degrees_word, is_other_kind, other_word, std_shape, shape_word, ended, shape_checked, given_of, past_blanks, front_name, name_at, begins_equals, equals_at, formula_fault, formula_in, formula_at, let_of, row_at, row_read}
+use Rattle.sheet_rows.specs.declared.fault.RowFault.{RowFault}
+use Rattle.sheet_rows.specs.declared.fault.RowFault.TheVariants.{Syntax, NotNumber, NumberRange, UnknownFunction, BadPower, TooDeep, TooManyNodes, Negative, NotBuilt, OutOfMemory}
+
+abbrev IsNoMemory : RowFault → Type 0
+IsNoMemory OutOfMemory = ⊥
+IsNoMemory (Syntax at) = Unit {0}
+IsNoMemory (NotNumber at) = Unit {0}
+IsNoMemory (NumberRange at) = Unit {0}
+IsNoMemory (UnknownFunction at) = Unit {0}
+IsNoMemory (BadPower at) = Unit {0}
+IsNoMemory (TooDeep at) = Unit {0}
+IsNoMemory (TooManyNodes at) = Unit {0}
+IsNoMemory Negative = Unit {0}
+IsNoMemory NotBuilt = Unit {0}
+
+abbrev IfFailed : {A : Type 0} → Read A → Type 0
+IfFailed (Ok x) = Unit {0}
+IfFailed (Err fault) = IsNoMemory fault
+
+then_failed : {A B : Type 0} (r : Read A) (next : A → Read B) → IfFailed r → ((x : A) → IfFailed (next x)) → IfFailed (then_read r next)
+then_failed (Err fault) next h k = h
+then_failed (Ok x) next h k = k x
+
+cond_failed : {A : Type 0} (t : Bool) (a b : Read A) → IfFailed a → IfFailed b → IfFailed (cond t a b)
+cond_failed true a b h k = h
+cond_failed false a b h k = k
+
+other_failed : (t : Bool) (place : ℕ) → IsNoMemory (other_word t place)
+other_failed true place = tt
+other_failed false place = tt
+
+plain_failed : (end : ℕ) (ws : List Word) → IfFailed (plain_word end ws)
+plain_failed end [] = tt
+plain_failed end (w ∷ ws) = cond_failed (is_plain_name w.text) _ (Err (Syntax (w.place + 1))) tt tt
+
+number_in_failed : (w : Word) (ws : List Word) (r : Result Bound NumFault) → IfFailed (number_in w ws r)
+number_in_failed w ws (Ok b) = tt
+number_in_failed w ws (Err NoLiteral) = tt
+number_in_failed w ws (Err NoBound) = tt
+
+number_failed : (end : ℕ) (ws : List Word) → IfFailed (number_word end ws)
+number_failed end [] = tt
+number_failed end (w ∷ ws) = number_in_failed w ws (parsed w.text)
+
+shape_failed : (end : ℕ) (ws : List Word) → IfFailed (shape_word end ws)
+shape_failed end [] = tt
+shape_failed end (w ∷ ws) =
+    cond_failed (bytes_eq w.text (codes "exact")) _ _ tt
+    (cond_failed (bytes_eq w.text (codes "std")) (then_read (number_word end ws) std_shape) (Err (other_word (is_other_shape w.text) w.place))
+    (then_failed (number_word end ws) std_shape (number_failed end ws) (λ u. tt)) (other_failed (is_other_shape w.text) w.place))
+
+ended_failed : (ws : List Word) → IfFailed (ended ws)
+ended_failed [] = tt
+ended_failed (w ∷ ws) = other_failed (is_degrees_word w.text) w.place
+
+checked_failed : (r : Result Unit ShapeFault) → IfFailed (shape_checked r)
+checked_failed (Ok done) = tt
+checked_failed (Err fault) = tt
+
+given_failed : (end : ℕ) (ws : List Word) → IfFailed (given_of end ws)
+given_failed end ws =
+    then_failed (plain_word end ws) _ (plain_failed end ws) (λ name.
+    then_failed (number_word end name.rest) _ (number_failed end name.rest) (λ estimate.
+    then_failed (shape_word end estimate.rest) _ (shape_failed end estimate.rest) (λ shape.
+    then_failed (ended shape.rest) _ (ended_failed shape.rest) (λ done.
+    then_failed (shape_checked (checked shape.item)) _ (checked_failed (checked shape.item)) (λ fine. tt)))))
+
+-- ---- formulas
+fault_failed : (at : ℕ) (fault : FormulaFault) → fault ≢ FormulaMemory → IsNoMemory (formula_fault at fault)
+fault_failed at (FormulaSyntax k) h = tt
+fault_failed at (FormulaFunction k) h = tt
+fault_failed at (FormulaNumber NoLiteral k) h = tt
+fault_failed at (FormulaNumber NoBound k) h = tt
+fault_failed at (FormulaPower k) h = tt
+fault_failed at (FormulaDeep k) h = tt
+fault_failed at (FormulaMany k) h = tt
+fault_failed at FormulaMemory h = h refl
+
+formula_failed : (at : ℕ) (r : Result Tree FormulaFault) → ((fault : FormulaFault) → r ≡ Err fault → fault ≢ FormulaMemory) → IfFailed (formula_in at r)
+formula_failed at (Ok f) h = tt
+formula_failed at (Err fault) h = fault_failed at fault (h fault refl)
+
+no_formula_memory : (text : List ℕ) (fault : FormulaFault) → reading_of text ≡ Err fault → fault ≢ FormulaMemory
+no_formula_memory text fault h e = formula_never text (rw e at h)
+
+let_failed : (line : List ℕ) (at : ℕ) → IfFailed (let_of line at)
+let_failed line at =
+    then_failed (name_at line (past_blanks line at)) _ (cond_failed (is_plain_name (front_name (drop (past_blanks line at) line))) _ (Err (Syntax (past_blanks line at + 1))) tt tt) (λ name.
+    then_failed (equals_at line (past_blanks line name.at)) _ (cond_failed (begins_equals (drop (past_blanks line name.at) line)) _ (Err (Syntax (past_blanks line name.at + 1))) tt tt) (λ start.
+    then_failed (formula_at line start) _ (formula_failed start (reading_of (drop start line)) (no_formula_memory (drop start line))) (λ f. tt)))
+
+row_failed : (line : List ℕ) (ws : List Word) → IfFailed (row_at line ws)
+row_failed line [] = tt
+row_failed line (w ∷ ws) =
+    cond_failed (bytes_eq w.text (codes "given")) _ _ (given_failed (length line) ws)
+    (cond_failed (bytes_eq w.text (codes "let")) (let_of line (w.place + length w.text)) (Err (other_word (is_other_kind w.text) w.place))
+    (let_failed line (w.place + length w.text)) (other_failed (is_other_kind w.text) w.place))
+
+pub never_memory : (line : List ℕ) (from : ℕ) → row_read line from ≢ Err OutOfMemory
+unfolding row_read
+never_memory line from h = subst IfFailed h (row_failed (written_part line) (words_from (written_part line) from))
