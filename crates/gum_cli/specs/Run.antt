@@ -12,6 +12,10 @@ use Rattle.gum_cli.specs.Script.{out, early, AreSound}
 abbrev pub script_limit : ℕ
 script_limit = 16777216
 
+-- the length of the pieces that a source is offered
+abbrev pub piece_length : ℕ
+piece_length = 65536
+
 -- the words that are accepted: the program's own name, and `run`
 abbrev pub is_run : List (String Global) → Bool
 is_run (program ∷ word ∷ []) = bytes_eq (string_bytes word) (codes "run")

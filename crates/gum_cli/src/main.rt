@@ -2,15 +2,22 @@
 //! each to standard output.
 #![tactic(auto)]
 
+mod exit;
 mod respond;
 mod rows;
 mod run;
+#[cfg(test)]
+mod run_tests;
 mod serve;
 #[cfg(test)]
 mod tests;
 
-ghost use Rattle.std.specs.Prelude.{◌≡◌};
+ghost use Rattle.std.specs.Prelude.{◌≡◌, ◌↔◌, IsFalse};
+ghost use Rattle.std.specs.Process.{exit_status};
+ghost use Rattle.gum_cli.specs.Exit.{exit_code_of};
+ghost use Rattle.gum_cli.specs.Run.{is_run};
 
+use crate::exit::Ending;
 use crate::run::{Status, run};
 use byte_io::{StdSink, StdSource};
 use fixed_interval::Steps;
@@ -24,18 +31,15 @@ fn main(rt: HostRuntime) -> ExitCode {
     let args = match env::args(&rt) {
         Ok(args) => args,
         Err(error) if error.kind() == ErrorKind::OutOfMemory => {
-            return end(&rt, Status::OutOfMemory);
+            return end(&rt, Ending::Ran(Status::OutOfMemory));
         }
-        Err(_) => {
-            let _ = eprintln!(rt; "no words");
-            return ExitCode::from(7);
-        }
+        Err(_) => return end(&rt, Ending::NoWords),
     };
     let Ok(words) = args.collect::<Vec<String>>(rt.alloc()) else {
-        return end(&rt, Status::OutOfMemory);
+        return end(&rt, Ending::Ran(Status::OutOfMemory));
     };
     let status = start::<Brand>(&rt, &words, Blank::new(1));
-    end(&rt, status)
+    end(&rt, Ending::Ran(status))
 }
 
 // Runs on the standard streams, with a counter for the ledger that `blank` stands for.
@@ -43,6 +47,7 @@ fn start<L: Ledger>(rt: &HostRuntime, words: &Vec<String>, blank: Blank) -> Stat
     requires name { blank.name ≡ L.name }
     requires parts { blank.parts ≡ L.parts }
     requires one { L.parts ≡ 1 }
+    ensures usage { (result ≡ Status.Usage) ↔ IsFalse (is_run words.now.items) }
 {
     let mut source = StdSource::new(rt.reader());
     let mut sink = StdSink::new(io::writer(rt));
@@ -50,16 +55,12 @@ fn start<L: Ledger>(rt: &HostRuntime, words: &Vec<String>, blank: Blank) -> Stat
     run(rt.alloc(), words, &mut source, &mut sink, &mut steps)
 }
 
-// Says on standard error why the run is not done, and answers the exit status.
-fn end(rt: &impl Eprint, status: Status) -> ExitCode {
-    let (code, words) = match status {
-        Status::Done => return ExitCode::SUCCESS,
-        Status::Usage => (2, "usage: gumtree run"),
-        Status::ReadFault => (3, "read fault"),
-        Status::WriteFault => (4, "write fault"),
-        Status::InputLimit => (5, "input too long"),
-        Status::OutOfMemory => (6, "out of memory"),
-    };
-    let _ = rt.eprintln(words);
-    ExitCode::from(code)
+// Says on standard error why no run was done, and answers the exit status.
+fn end(rt: &impl Eprint, ending: Ending) -> ExitCode
+    ensures { exit_status result ≡ exit_code_of ending }
+{
+    if let Some(text) = ending.message() {
+        let _ = rt.eprintln(text);
+    }
+    ExitCode::from(ending.exit_code())
 }

@@ -3,7 +3,7 @@ ghost use Rattle.std.specs.Io.KnownBytes.{IsAtEnd};
 ghost use Rattle.byte_io.specs.Faults.{Rose, HasCause};
 ghost use Rattle.byte_io.specs.Source.{Took};
 ghost use Rattle.byte_io.specs.Sink.{HasRoom, Wrote, WrotePart};
-ghost use Rattle.gum_cli.specs.Run.{script_limit, is_run, RoomForReplies, IsWithinLimit, IsDone, IsCutOff};
+ghost use Rattle.gum_cli.specs.Run.{script_limit, piece_length, is_run, RoomForReplies, IsWithinLimit, IsDone, IsCutOff};
 
 use crate::respond::respond;
 use byte_io::{Failed, Sink, Source};
@@ -28,6 +28,9 @@ pub enum Status {
 
 /// The most bytes of a script.
 const SCRIPT_LIMIT: usize = 16_777_216;
+
+/// The bytes of the pieces that a source is offered.
+const PIECE_LENGTH: usize = 65_536;
 
 /// Why a script was not read to its end.
 #[derive(Drop, Debug)]
@@ -68,10 +71,11 @@ fn read_all<S: Source>(alloc: Global, source: &mut S) -> Result<Vec<u8>, Unread>
     ensures limit { result ≡ Err Unread.Limit → S.count source.old + script_limit < S.count source.new }
     ensures over { S.count source.old + script_limit < S.count source.new
         → (result ≡ Err Unread.Limit) ⊎ (result ≡ Err Unread.OutOfMemory) }
+    ensures most { S.count source.new ≤ S.count source.old + script_limit + piece_length }
     ensures never_falls { S.faults source.old ≤ S.faults source.new }
 {
     let mut script = Vec::new(alloc);
-    let mut piece = [0u8; 65_536];
+    let mut piece = [0u8; PIECE_LENGTH];
     'pieces: loop {
         let Ok(count) = source.read(&mut piece) else {
             return Err(Unread::Fault);
@@ -107,23 +111,35 @@ pub fn run<S: Source, K: Sink, L: Ledger>(
     steps: &mut Steps<L>,
 ) -> Status
     requires count { S.count source.old ≤ 2 ^ 62 }
-    requires room { RoomForReplies (K.room sink.old) (S.left source.old) }
+    requires room { IsTrue (is_run words.now.items) → RoomForReplies (K.room sink.old) (S.left source.old) }
 
-    // All replies were written, and each interval among them encloses its exact value.
-    ensures done { result ≡ Status.Done → IsDone (S.count source.old) (S.count source.new)
+    // At the word `run` all replies were written, and each interval among them encloses its exact value.
+    ensures done { IsTrue (is_run words.now.items) → result ≡ Status.Done → IsDone (S.count source.old) (S.count source.new)
         (S.taken source.old) (S.taken source.new) (S.left source.old) (S.left source.new) (S.ended source.new)
         (K.written sink.old) (K.written sink.new) (K.room sink.old) (K.room sink.new) }
 
-    // Else a front of what was due was written, and nothing where the replies were not begun.
-    ensures cut_off { result ≢ Status.Usage → IsCutOff (S.count source.old) (S.count source.new)
+    // However it ends, a front of what was due was written, and nothing where the replies were not begun.
+    ensures cut_off { IsTrue (is_run words.now.items) → IsCutOff (S.count source.old) (S.count source.new)
         (S.taken source.old) (S.taken source.new) (S.left source.old) (S.left source.new) (S.ended source.new)
         (K.written sink.old) (K.written sink.new) (K.room sink.old) (K.room sink.new) }
-    ensures written_at_end { result ≡ Status.WriteFault → IsTrue (S.ended source.new) }
-    ensures nothing_written { result ≢ Status.Done → result ≢ Status.WriteFault → sink.new ≡ sink.old }
+    ensures written_at_end { IsTrue (is_run words.now.items)
+        → result ≡ Status.WriteFault → IsTrue (S.ended source.new) }
+    ensures nothing_written { IsTrue (is_run words.now.items)
+        → result ≢ Status.Done → result ≢ Status.WriteFault → sink.new ≡ sink.old }
 
+    // A script within the limit is answered where neither count of faults rises, but for want of memory.
+    ensures complete { IsTrue (is_run words.now.items)
+        → (Rose (S.faults source.old) (S.faults source.new) → ⊥)
+        → (Rose (K.faults sink.old) (K.faults sink.new) → ⊥)
+        → IsWithinLimit (S.count source.old) (S.count source.new) (S.left source.old)
+        → (result ≡ Status.Done) ⊎ (result ≡ Status.OutOfMemory) }
+
+    // Words that the program does not know: nothing was read or written.
     ensures usage { (result ≡ Status.Usage) ↔ IsFalse (is_run words.now.items) }
-    ensures nothing_read { result ≡ Status.Usage → source.new ≡ source.old }
+    ensures untouched_source { result ≡ Status.Usage → source.new ≡ source.old }
+    ensures untouched_sink { result ≡ Status.Usage → sink.new ≡ sink.old }
 
+    // Whatever the words, each fault has its cause.
     ensures read_fault { result ≡ Status.ReadFault → Rose (S.faults source.old) (S.faults source.new) }
     ensures write_fault { result ≡ Status.WriteFault → Rose (K.faults sink.old) (K.faults sink.new) }
 
@@ -133,12 +149,8 @@ pub fn run<S: Source, K: Sink, L: Ledger>(
     ensures over_limit { S.count source.old + script_limit < S.count source.new
         → (result ≡ Status.InputLimit) ⊎ (result ≡ Status.OutOfMemory) }
 
-    // A script within the limit is answered where neither count of faults rises, but for want of memory.
-    ensures complete { IsTrue (is_run words.now.items)
-        → (Rose (S.faults source.old) (S.faults source.new) → ⊥)
-        → (Rose (K.faults sink.old) (K.faults sink.new) → ⊥)
-        → IsWithinLimit (S.count source.old) (S.count source.new) (S.left source.old)
-        → (result ≡ Status.Done) ⊎ (result ≡ Status.OutOfMemory) }
+    // No piece is taken behind the one that passes the limit.
+    ensures most { S.count source.new ≤ S.count source.old + script_limit + piece_length }
 {
     if !says_run(words) {
         return Status::Usage;

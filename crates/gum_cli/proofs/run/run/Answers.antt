@@ -5,7 +5,7 @@ use Rattle.gum_cli.proofs.run.run.Goals as goal
 
 pub returns-in-Ok-write_all-clause-done : goal.returns-in-Ok-write_all-clause-done
 returns-in-Ok-write_all-clause-done g c =
-    λ _. record {
+    λ _ _. record {
       script = c.in-Ok.script.items;
       took = c.in-Ok.ensures.whole;
       short = c.in-Ok.ensures.short;
