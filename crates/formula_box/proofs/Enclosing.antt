@@ -6,7 +6,6 @@ use Rattle.exact_fraction.proofs.PowerLaws.{base_not_zero}
 use Rattle.exact_fraction.proofs.Ring.{ring, Whole, ◌:*◌, x0}
 use Rattle.exact_fraction.specs.Powers.{power, whole_power}
 use Rattle.exact_law.specs.Model.{value, is_defined, has_power}
-use Rattle.decimal18.specs.Bound.{Bound, value_of}
 use Rattle.fixed_interval.specs.Interval.{Interval, Encloses, point_span, sum_span}
 use Rattle.fixed_interval.specs.Rules.{one_bound, difference_span, product_span, quotient, holds_zero}
 use Rattle.fixed_interval.specs.Powers.{power_span, as_answer, inverted, power as span_power}

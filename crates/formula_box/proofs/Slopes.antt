@@ -1,14 +1,13 @@
 -- The span of a derivative encloses the derivative.
-use Rattle.std.specs.Prelude.{◌≡◌, ℕ, zero, suc, ◌-◌, ◌<◌, ℤ, pos, negsuc, Bool, true, false, ◌||◌, cond, List, [], ◌∷◌, bytes_eq, Option, None, Some, IfSome, Result, Ok, Err, IfOk, refl}
+use Rattle.std.specs.Prelude.{◌≡◌, ℕ, zero, suc, ◌-◌, ◌<◌, ℤ, pos, negsuc, Bool, true, false, ◌||◌, cond, List, [], ◌∷◌, bytes_eq, Option, None, Some, Result, Ok, Err, IfOk, refl}
 use Rattle.std.proofs.Common.{sym, ◌∙◌, subst, arith}
 use Rattle.exact_fraction.specs.Number.{ℚ, of_ℤ, ◌+ℚ◌, ◌*ℚ◌, ◌/ℚ◌, neg_ℚ, inv_ℚ}
 use Rattle.exact_fraction.proofs.Ring.{ring, Whole, Minus as Opposite_of, ◌:+◌, ◌:-◌, ◌:*◌, x0, x1}
 use Rattle.exact_fraction.specs.Powers.{power, whole_power}
 use Rattle.exact_law.specs.Model.{value, slope, unit, power_slope as exact_power_slope}
 use Rattle.decimal18.specs.Bound.{scaled}
-use Rattle.decimal18.proofs.Values.{value-whole}
-use Rattle.fixed_interval.specs.Interval.{Interval, Encloses, point_span, sum_span}
-use Rattle.fixed_interval.specs.Rules.{one_bound, difference_span, product_span, negative_span, quotient}
+use Rattle.fixed_interval.specs.Interval.{Interval, Encloses, point_span}
+use Rattle.fixed_interval.specs.Rules.{one_bound, negative_span, quotient}
 use Rattle.fixed_interval.specs.Powers.{power_span, then_span}
 use Rattle.fixed_interval.specs.declared.faults.ArithFault.{ArithFault}
 use Rattle.fixed_interval.specs.Sums.{zero_span, both, Holds}
