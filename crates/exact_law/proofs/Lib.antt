@@ -7,6 +7,7 @@ pub mod NoValues
 pub mod Split
 pub mod Schwarz
 pub mod Welch
+pub mod Occurring
 pub mod RenamingLaws
 pub mod RuleLaws
 pub mod FactorLaws

@@ -187,7 +187,7 @@ own_group {K = K} same law inputs before after g p i j i1 =
         by : (b : Bool) → absent same i (all_members (before ++ g ∷ after)) ≡ b → b ≡ false
         by true e =
             let all = absent-append_right same i (all_members before) (members g ++ all_members after)
-                (sym (ap (absent same i) (all_members-append before g after)) ∙ e) in
+            (sym (ap (absent same i) (all_members-append before g after)) ∙ e) in
             absurd (true≢false (sym all ∙ not_absent same i (members g) (all_members after) i1))
         by false e = refl
 

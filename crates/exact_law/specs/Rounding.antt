@@ -1,7 +1,7 @@
 -- Rounded numbers: the whole part, an estimate at a decimal place, the two significant digits of the
--- square root of a variance, and the hundredths of a correlation coefficient. JCGM 100:2008, 7.2.6 asks
--- for at most two digits, and for enough of a coefficient. That ties go upward, and the exact conditions
--- on squares below, are ours.
+-- square root of a variance, and the hundredths of a correlation coefficient. JCGM 100:2008, 7.2.6 has at
+-- most two digits suffice for an uncertainty. That there are two, that a coefficient has hundredths, that
+-- ties go upward, and the exact conditions on squares below, are ours.
 use Rattle.std.specs.Prelude.{◌≡◌, ℕ, suc, ◌+◌, ◌-◌, ◌*◌, ◌≤◌, ◌==◌, cond, ℤ, pos, negsuc, ◌<ℤ◌, unsigned_abs}
 use Rattle.exact_fraction.specs.Number.{ℚ, of_ℤ, ◌+ℚ◌, ◌*ℚ◌, ◌/ℚ◌, inv_ℚ, ◌≤ℚ◌, floor_ℚ, ◌<ℚ◌}
 use Rattle.exact_fraction.specs.Powers.{power}

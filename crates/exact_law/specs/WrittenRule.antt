@@ -1,6 +1,6 @@
 -- Statements of conformity by a written rule with a guard band w = r U (ILAC-G8:09/2019, 4.2.2 for
 -- the form with two outcomes, 4.2.3 for the form with four): over exact values, and over intervals
--- that hold them.
+-- that hold them. The exact conditions, by squares of distances, are ours.
 use Rattle.std.specs.Prelude.{◌≡◌, ℕ, Bool, true, false, cond, ◌&&◌, ◌||◌, Option, Some, None, List, [], ◌∷◌, ◌++◌, pos}
 use Rattle.exact_fraction.specs.Number.{ℚ, of_ℤ, ◌*ℚ◌, is_at_most_ℚ, ◌≤ℚ◌, ◌-ℚ◌}
 

@@ -3,9 +3,11 @@
 //! conformity are, in the terms of the GUM (JCGM 100:2008) and of ILAC-G8:09/2019.
 //!
 //! The definitions in `specs/` are over exact numbers, generic in the key of a quantity, and know
-//! nothing of texts, names, intervals or of the order in which code works. Each function below has an
-//! empty body, and its clauses are a theorem on the definitions. `same` is any test of two keys for
-//! equality.
+//! nothing of texts, names or of the order in which code works. Each function below has an empty body,
+//! and its clauses are a theorem on the definitions. `same` is any test of two keys for equality.
+//!
+//! The written rule stands here over intervals too, given by two exact ends of its own. It is to stand
+//! over the spans of decimal numbers, in a crate above those, and leaves this one then.
 #![tactic(auto)]
 
 mod worked;
@@ -18,7 +20,7 @@ ghost use Rattle.exact_law.specs.Law.{Column, Group, Own, Pair, Joint, declared_
 ghost use Rattle.exact_law.specs.Degrees.{InfiniteDegrees, FiniteDegrees, degrees_of, inverse_degrees, share_of, counts, Level, factor};
 ghost use Rattle.exact_law.specs.Rounding.{at_place, IsTwoDigits, IsNearest, Digits, AreDigitsOf, IsHundredths, IsCorrelation};
 ghost use Rattle.exact_law.specs.WrittenRule.{Form, Statement, Ends, IsWithin, Span, AllWithin, Agrees, is_guarded, is_inside, is_near, all_of, guarded_over, inside_over, near_over, all_over, Stated, decision, stated_at};
-ghost use Rattle.exact_law.specs.Renaming.{KeepsApart, renamed_rows, renamed_groups};
+ghost use Rattle.exact_law.specs.Renaming.{KeepsApart, EachOf, EachRowKey, EachMember, Passes, renamed_rows, renamed_group, renamed_groups};
 
 /// Sharing changes nothing: in an order of rows of the model, the value of a formula row, whether it is
 /// defined and its derivative by every input are those of its own formula, at the values and derivatives
@@ -176,23 +178,33 @@ pub fn what_is_settled_over_intervals_is_exact()
         → IsWithin w ends → AllWithin ds spans → decision form ends spans ≡ Stated s → stated_at form w ds ≡ s }
 {}
 
-/// A renaming of the keys that keeps them apart, as that of a sheet's names to a graph's numbers, changes
-/// no covariance of inputs, and no value, sensitivity, variance or covariance of quantities.
+/// A renaming that keeps apart the keys that occur, those that pass `p`, as that of a sheet's names to
+/// a graph's numbers, changes no covariance of inputs, no value, sensitivity, variance or covariance of
+/// quantities, and no part, share or degrees of freedom.
 pub fn renaming_changes_nothing<K, L>()
-    ensures covariances { (same : K → K → Bool) (same' : L → L → Bool) (rename : K → L) → KeepsApart same same' rename
-        → (groups : List (Group K)) (i j : K)
+    ensures covariances { (same : K → K → Bool) (same' : L → L → Bool) (rename : K → L) (p : K → Bool) → KeepsApart same same' rename (Passes p)
+        → (groups : List (Group K)) → EachMember (Passes p) groups → (i j : K) → Passes p i → Passes p j
         → covariance same' (renamed_groups rename groups) (rename i) (rename j) ≡ covariance same groups i j }
-    ensures values { (same : K → K → Bool) (same' : L → L → Bool) (rename : K → L) → KeepsApart same same' rename
-        → (model : List (Row K)) (y : K)
+    ensures values { (same : K → K → Bool) (same' : L → L → Bool) (rename : K → L) (p : K → Bool) → KeepsApart same same' rename (Passes p)
+        → (model : List (Row K)) → EachRowKey (Passes p) model → (y : K) → Passes p y
         → exact_value same' (renamed_rows rename model) (rename y) ≡ exact_value same model y }
-    ensures defined { (same : K → K → Bool) (same' : L → L → Bool) (rename : K → L) → KeepsApart same same' rename
-        → (model : List (Row K)) (y : K)
+    ensures defined { (same : K → K → Bool) (same' : L → L → Bool) (rename : K → L) (p : K → Bool) → KeepsApart same same' rename (Passes p)
+        → (model : List (Row K)) → EachRowKey (Passes p) model → (y : K) → Passes p y
         → has_value same' (renamed_rows rename model) (rename y) ≡ has_value same model y }
-    ensures sensitivities { (same : K → K → Bool) (same' : L → L → Bool) (rename : K → L) → KeepsApart same same' rename
-        → (model : List (Row K)) (y i : K)
+    ensures sensitivities { (same : K → K → Bool) (same' : L → L → Bool) (rename : K → L) (p : K → Bool) → KeepsApart same same' rename (Passes p)
+        → (model : List (Row K)) → EachRowKey (Passes p) model → (y i : K) → Passes p y → Passes p i
         → exact_slope same' (renamed_rows rename model) (rename y) (rename i) ≡ exact_slope same model y i }
-    ensures laws { (same : K → K → Bool) (same' : L → L → Bool) (rename : K → L) → KeepsApart same same' rename
-        → (model : List (Row K)) (groups : List (Group K)) (y z : K)
+    ensures laws { (same : K → K → Bool) (same' : L → L → Bool) (rename : K → L) (p : K → Bool) → KeepsApart same same' rename (Passes p)
+        → (model : List (Row K)) → EachRowKey (Passes p) model → (groups : List (Group K)) → EachMember (Passes p) groups → (y z : K) → Passes p y → Passes p z
         → law same' (renamed_rows rename model) (renamed_groups rename groups) (rename y) (rename z)
         ≡ law same model groups y z }
+    ensures parts { (same : K → K → Bool) (same' : L → L → Bool) (rename : K → L) (p : K → Bool) → KeepsApart same same' rename (Passes p)
+        → (model : List (Row K)) → EachRowKey (Passes p) model → (g : Group K) → EachOf (Passes p) (members g) → (y : K) → Passes p y
+        → part_of same' (renamed_rows rename model) (renamed_group rename g) (rename y) ≡ part_of same model g y }
+    ensures shares { (same : K → K → Bool) (same' : L → L → Bool) (rename : K → L) (p : K → Bool) → KeepsApart same same' rename (Passes p)
+        → (model : List (Row K)) → EachRowKey (Passes p) model → (y : K) → Passes p y → (g : Group K) → EachOf (Passes p) (members g)
+        → share_of same' (renamed_rows rename model) (rename y) (renamed_group rename g) ≡ share_of same model y g }
+    ensures degrees { (same : K → K → Bool) (same' : L → L → Bool) (rename : K → L) (p : K → Bool) → KeepsApart same same' rename (Passes p)
+        → (model : List (Row K)) → EachRowKey (Passes p) model → (groups : List (Group K)) → EachMember (Passes p) groups → (y : K) → Passes p y
+        → degrees_of same' (renamed_rows rename model) (renamed_groups rename groups) (rename y) ≡ degrees_of same model groups y }
 {}

@@ -56,7 +56,7 @@ pub fn worked_undefined_rows()
 pub fn worked_table()
     ensures mean { mean 11 (readings_but 2) ≡ ratio (pos 12) 11 }
     ensures covariances { (covariance nat_eq eleven_readings_groups 0 0 ∷ covariance nat_eq eleven_readings_groups 0 1
-            ∷ covariance nat_eq eleven_readings_groups 1 0 ∷ covariance nat_eq eleven_readings_groups 1 1 ∷ [])
+        ∷ covariance nat_eq eleven_readings_groups 1 0 ∷ covariance nat_eq eleven_readings_groups 1 1 ∷ [])
         ≡ ratio (pos 1) 121 ∷ ratio (pos 2) 121 ∷ ratio (pos 2) 121 ∷ ratio (pos 4) 121 ∷ [] }
     ensures variance { law nat_eq eleven_readings eleven_readings_groups 2 2 ≡ ratio (pos 9) 121 }
     ensures degrees { degrees_of nat_eq eleven_readings eleven_readings_groups 2 ≡ FiniteDegrees (of_ℤ (pos 10)) }
@@ -67,12 +67,12 @@ pub fn worked_table()
 /// of the two and their correlation coefficient, and the degrees of freedom.
 pub fn worked_pair()
     ensures covariances { (covariance nat_eq unequal_pair_groups 0 0 ∷ covariance nat_eq unequal_pair_groups 0 1
-            ∷ covariance nat_eq unequal_pair_groups 1 0 ∷ covariance nat_eq unequal_pair_groups 1 1 ∷ [])
+        ∷ covariance nat_eq unequal_pair_groups 1 0 ∷ covariance nat_eq unequal_pair_groups 1 1 ∷ [])
         ≡ whole 4 ∷ whole 3 ∷ whole 3 ∷ whole 9 ∷ [] }
     ensures declared { (covariance_in nat_eq (declared_pair 0 1 (ratio (pos 1) 2) (whole 2) (whole 3)) 0 0
-            ∷ covariance_in nat_eq (declared_pair 0 1 (ratio (pos 1) 2) (whole 2) (whole 3)) 0 1
-            ∷ covariance_in nat_eq (declared_pair 0 1 (ratio (pos 1) 2) (whole 2) (whole 3)) 1 1
-            ∷ inverse_degrees {K = ℕ} (declared_pair 0 1 (ratio (pos 1) 2) (whole 2) (whole 3)) ∷ [])
+        ∷ covariance_in nat_eq (declared_pair 0 1 (ratio (pos 1) 2) (whole 2) (whole 3)) 0 1
+        ∷ covariance_in nat_eq (declared_pair 0 1 (ratio (pos 1) 2) (whole 2) (whole 3)) 1 1
+        ∷ inverse_degrees {K = ℕ} (declared_pair 0 1 (ratio (pos 1) 2) (whole 2) (whole 3)) ∷ [])
         ≡ whole 4 ∷ whole 3 ∷ whole 9 ∷ whole 0 ∷ [] }
     ensures law { (law nat_eq unequal_pair unequal_pair_groups 2 2 ∷ law nat_eq unequal_pair unequal_pair_groups 2 0 ∷ [])
         ≡ whole 52 ∷ whole 10 ∷ [] }
@@ -95,15 +95,15 @@ pub fn worked_degrees()
 pub fn factors_are_those_of_the_table()
     ensures percent95 { map (λ n. thousandths Percent95 (row_of (FiniteDegrees (whole n)))) tabulated
         ≡ 12710 ∷ 4300 ∷ 3180 ∷ 2780 ∷ 2570 ∷ 2450 ∷ 2360 ∷ 2310 ∷ 2260 ∷ 2230 ∷ 2200 ∷ 2180 ∷ 2160 ∷ 2140 ∷ 2130 ∷ 2120 ∷ 2110 ∷ 2100
-            ∷ 2090 ∷ 2090 ∷ 2060 ∷ 2040 ∷ 2030 ∷ 2020 ∷ 2010 ∷ 2010 ∷ 1984 ∷ [] }
+        ∷ 2090 ∷ 2090 ∷ 2060 ∷ 2040 ∷ 2030 ∷ 2020 ∷ 2010 ∷ 2010 ∷ 1984 ∷ [] }
     ensures percent9545 { map (λ n. thousandths Percent9545 (row_of (FiniteDegrees (whole n)))) tabulated
         ≡ 13970 ∷ 4530 ∷ 3310 ∷ 2870 ∷ 2650 ∷ 2520 ∷ 2430 ∷ 2370 ∷ 2320 ∷ 2280 ∷ 2250 ∷ 2230 ∷ 2210 ∷ 2200 ∷ 2180 ∷ 2170 ∷ 2160 ∷ 2150
-            ∷ 2140 ∷ 2130 ∷ 2110 ∷ 2090 ∷ 2070 ∷ 2060 ∷ 2060 ∷ 2050 ∷ 2025 ∷ [] }
+        ∷ 2140 ∷ 2130 ∷ 2110 ∷ 2090 ∷ 2070 ∷ 2060 ∷ 2060 ∷ 2050 ∷ 2025 ∷ [] }
     ensures percent99 { map (λ n. thousandths Percent99 (row_of (FiniteDegrees (whole n)))) tabulated
         ≡ 63660 ∷ 9920 ∷ 5840 ∷ 4600 ∷ 4030 ∷ 3710 ∷ 3500 ∷ 3360 ∷ 3250 ∷ 3170 ∷ 3110 ∷ 3050 ∷ 3010 ∷ 2980 ∷ 2950 ∷ 2920 ∷ 2900 ∷ 2880
-            ∷ 2860 ∷ 2850 ∷ 2790 ∷ 2750 ∷ 2720 ∷ 2700 ∷ 2690 ∷ 2680 ∷ 2626 ∷ [] }
+        ∷ 2860 ∷ 2850 ∷ 2790 ∷ 2750 ∷ 2720 ∷ 2700 ∷ 2690 ∷ 2680 ∷ 2626 ∷ [] }
     ensures infinite { (thousandths Percent95 (row_of InfiniteDegrees) ∷ thousandths Percent9545 (row_of InfiniteDegrees)
-            ∷ thousandths Percent99 (row_of InfiniteDegrees) ∷ [])
+        ∷ thousandths Percent99 (row_of InfiniteDegrees) ∷ [])
         ≡ 1960 ∷ 2000 ∷ 2576 ∷ [] }
     ensures between { map (λ x. thousandths Percent95 (row_of (FiniteDegrees x))) (ratio (pos 1) 2 ∷ ratio (pos 19) 10 ∷ ratio (pos 249) 10 ∷ ratio (pos 999) 10 ∷ [])
         ≡ 12710 ∷ 12710 ∷ 2090 ∷ 2010 ∷ [] }
@@ -127,21 +127,21 @@ pub fn worked_roundings()
 /// limits each outcome, at its first and its last tenth. Without limits the statement is Pass.
 pub fn worked_statements()
     ensures lower { map (λ y. stated between_limits y (whole 3) (whole 4))
-            (whole 3 ∷ ratio (pos 29) 10 ∷ whole 0 ∷ ratio (negsuc 0) 10 ∷ of_ℤ (negsuc 2) ∷ ratio (negsuc 30) 10 ∷ [])
+        (whole 3 ∷ ratio (pos 29) 10 ∷ whole 0 ∷ ratio (negsuc 0) 10 ∷ of_ℤ (negsuc 2) ∷ ratio (negsuc 30) 10 ∷ [])
         ≡ Pass ∷ ConditionalPass ∷ ConditionalPass ∷ ConditionalFail ∷ ConditionalFail ∷ Fail ∷ [] }
     ensures upper { map (λ y. stated between_limits y (whole 3) (whole 4))
-            (whole 17 ∷ ratio (pos 171) 10 ∷ whole 20 ∷ ratio (pos 201) 10 ∷ whole 23 ∷ ratio (pos 231) 10 ∷ [])
+        (whole 17 ∷ ratio (pos 171) 10 ∷ whole 20 ∷ ratio (pos 201) 10 ∷ whole 23 ∷ ratio (pos 231) 10 ∷ [])
         ≡ Pass ∷ ConditionalPass ∷ ConditionalPass ∷ ConditionalFail ∷ ConditionalFail ∷ Fail ∷ [] }
     ensures binary { map (λ y. stated between_limits_binary y (whole 3) (whole 4)) (whole 3 ∷ ratio (pos 29) 10 ∷ [])
         ≡ Pass ∷ Fail ∷ [] }
     ensures without_limits { stated no_limits (whole 5) (whole 3) (whole 4) ≡ Pass }
     ensures both { (both No No ∷ both No Yes ∷ both No Unsettled ∷ both Yes No ∷ both Yes Yes ∷ both Yes Unsettled
-            ∷ both Unsettled No ∷ both Unsettled Yes ∷ both Unsettled Unsettled ∷ [])
+        ∷ both Unsettled No ∷ both Unsettled Yes ∷ both Unsettled Unsettled ∷ [])
         ≡ No ∷ No ∷ No ∷ No ∷ Yes ∷ Unsettled ∷ No ∷ Unsettled ∷ Unsettled ∷ [] }
     ensures either { (either No No ∷ either No Yes ∷ either No Unsettled ∷ either Yes No ∷ either Yes Yes ∷ either Yes Unsettled
-            ∷ either Unsettled No ∷ either Unsettled Yes ∷ either Unsettled Unsettled ∷ [])
+        ∷ either Unsettled No ∷ either Unsettled Yes ∷ either Unsettled Unsettled ∷ [])
         ≡ No ∷ Yes ∷ Unsettled ∷ Yes ∷ Yes ∷ Yes ∷ Unsettled ∷ Yes ∷ Unsettled ∷ [] }
     ensures conditions { (decision_by Binary Unsettled Yes Yes ∷ decision_by FourOutcomes Unsettled Yes Yes ∷ decision_by FourOutcomes No Unsettled Yes
-            ∷ decision_by FourOutcomes No No Unsettled ∷ decision_by FourOutcomes No No No ∷ [])
+        ∷ decision_by FourOutcomes No No Unsettled ∷ decision_by FourOutcomes No No No ∷ [])
         ≡ Undecided 1 ∷ Undecided 1 ∷ Undecided 2 ∷ Undecided 3 ∷ Stated Fail ∷ [] }
 {}

@@ -49,8 +49,8 @@ pub fn inverse_degrees(group: &Group) -> Option<Exact>
             first_variance: _,
             second_variance: _,
             covariance: _,
-            inverse_degrees,
-        } => Some(*inverse_degrees),
+            inverse_degrees: of_both,
+        } => Some(*of_both),
         Group::Joint(table) => Exact::count(table.records().saturating_sub(1)).inverse(),
     }
 }

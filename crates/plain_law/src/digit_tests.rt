@@ -246,6 +246,17 @@ fn statements_at_two_limits(rt: HostRuntime) -> Result<(), Fail> {
     Ok(())
 }
 
+// A variance of 0 has no correlation coefficient.
+#[test]
+fn no_correlation_of_a_variance_0(rt: HostRuntime) -> Result<(), Fail> {
+    let zero = Exact::whole(0);
+    let one = Exact::whole(1);
+    assert_eq!(rt; correlation(zero, zero, one), None);
+    assert_eq!(rt; correlation(zero, one, zero), None);
+    assert_eq!(rt; correlation(one.negated(), one, Exact::whole(4)), Some(-50));
+    Ok(())
+}
+
 // In hundredths: the ends of W, of the distance and of its square, with the decision of the form with
 // four outcomes.
 const DECISIONS: [([i64; 6], Decision); 6] = [

@@ -1,6 +1,6 @@
 use crate::{
     Body, Column, Degrees, Exact, Expression, Failure, Group, Share, Table, covariance, derivative,
-    effective, joint, law, mean, part_of, value,
+    effective, inverse_degrees, joint, law, mean, part_of, value,
 };
 use std::alloc::{AllocError, Global};
 use std::process::Abort;
@@ -252,7 +252,30 @@ fn degrees_of_a_sum(rt: HostRuntime) -> Result<(), Fail> {
     Ok(())
 }
 
-// A quotient by 0 is not defined, and so is what uses it; powers of 2 leave 128 bits.
+// 1/ν of eleven readings, of a pair, and of an input.
+#[test]
+fn inverse_degrees_of_groups(rt: HostRuntime) -> Result<(), Fail> {
+    let alloc = rt.alloc();
+    let table = Table::new(11, Vec::new(alloc)).ok_or("eleven records")?;
+    let tenth = inverse_degrees(&Group::Joint(table)).ok_or("held")?;
+    assert!(rt; is(Ok(tenth), 1, 10));
+    let pair = Group::Pair {
+        first: 0,
+        second: 1,
+        first_variance: Exact::whole(4),
+        second_variance: Exact::whole(9),
+        covariance: Exact::whole(3),
+        inverse_degrees: ratio(1, 8)?,
+    };
+    let eighth = inverse_degrees(&pair).ok_or("held")?;
+    assert!(rt; is(Ok(eighth), 1, 8));
+    let none = inverse_degrees(&own(0, 1, 1)?).ok_or("held")?;
+    assert!(rt; none.is_zero());
+    Ok(())
+}
+
+// A quotient by 0 is not defined, and so is what uses it, itself or a row that is not there; powers of 2
+// leave 128 bits.
 #[test]
 fn failures(rt: HostRuntime) -> Result<(), Fail> {
     let alloc = rt.alloc();
@@ -264,12 +287,19 @@ fn failures(rt: HostRuntime) -> Result<(), Fail> {
     let two = Box::new(alloc, Expression::Num(Exact::whole(2)))?;
     model.push(Body::Formula(Expression::Pow(two, 120)))?;
     model.push(Body::Formula(times(alloc, Expression::Key(4), 1024)?))?;
+    model.push(Body::Formula(times(alloc, Expression::Key(7), 1)?))?;
+    model.push(Body::Formula(times(alloc, Expression::Key(6), 1)?))?;
+    model.push(Body::Formula(times(alloc, Expression::Key(99), 1)?))?;
     let groups = Vec::new(alloc);
     assert_eq!(rt; value(&model, 3).err(), Some(Failure::Undefined));
     assert_eq!(rt; derivative(&model, 3, 0).err(), Some(Failure::Undefined));
     assert_eq!(rt; law(&model, &groups, 3, 0).err(), Some(Failure::Undefined));
     assert!(rt; value(&model, 4).is_ok());
     assert_eq!(rt; value(&model, 5).err(), Some(Failure::TooWide));
+    // rows 6 and 7 use one another, row 8 uses a row that is not there, and 9 is none
+    for key in 6..10 {
+        assert_eq!(rt; value(&model, key).err(), Some(Failure::Undefined));
+    }
     Ok(())
 }
 
