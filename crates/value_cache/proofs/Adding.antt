@@ -10,23 +10,23 @@ use Rattle.fixed_interval.specs.Interval.{point_span}
 use Rattle.formula_ast.specs.Trees.{Tree, uses, names_of}
 use Rattle.value_cache.specs.Quantities.{Input, Quantity, by_names, is_there, first_unknown}
 use Rattle.value_cache.specs.Evaluations.{Found, evaluation_of_body, evaluation_of_formula, evaluation_of}
-use Rattle.value_cache.specs.Standing.{UsesOnly, Keeps, with_quantity}
+use Rattle.value_cache.specs.Evaluable.{UsesOnly, Keeps, with_quantity}
 use Rattle.value_cache.specs.Cells.{Cells, kept}
 use Rattle.value_cache.specs.declared.evaluation.Evaluation.{Evaluation}
 use Rattle.value_cache.specs.declared.evaluation.Evaluation.TheVariants.{Enclosed}
 use Rattle.value_cache.proofs.Names.{find-distinct, names_known}
 use Rattle.value_cache.proofs.Faults.{is_evaluated}
-use Rattle.value_cache.proofs.Standing.{standing_empty, standing-added, evaluation_of-added}
+use Rattle.value_cache.proofs.Evaluable.{evaluable_empty, evaluable-added, evaluation_of-added}
 
 -- ---- quantities by any kind of key
 pub keeps_empty : {K : Type 0} (same : K → K → Bool) → Keeps same [] (λ n. None)
 unfolding evaluation_of
-keeps_empty same = record { standing = standing_empty same; evaluations = λ n. refl }
+keeps_empty same = record { evaluable = evaluable_empty same; evaluations = λ n. refl }
 
 -- what is kept under a key is there
 pub kept-is_there : {K : Type 0} (same : K → K → Bool) (qs : List (Quantity K)) (found : Found K) → Keeps same qs found → (n : K)
     → is_some (found n) ≡ is_there same qs n
-kept-is_there same qs found keeps n = ap is_some (keeps.evaluations n) ∙ keeps.standing.found n
+kept-is_there same qs found keeps n = ap is_some (keeps.evaluations n) ∙ keeps.evaluable.found n
 
 pub keeps-added : {K : Type 0} (same : K → K → Bool) → IsSameTest same → (qs : List (Quantity K)) (found found' : Found K) (q : Quantity K) (e : Evaluation K)
     → Keeps same qs found → is_there same qs q.key ≡ false → UsesOnly same qs q.body
@@ -38,11 +38,11 @@ keeps-added same law qs found found' q e keeps fresh uses is added =
     let new : Some e ≡ evaluation_of_body (evaluation_of same qs) q.key (Some q.body) =
     sym is ∙ ap (λ others. evaluation_of_body others q.key (Some q.body)) agree in
     record {
-      standing = standing-added same law qs q keeps.standing fresh uses;
+      evaluable = evaluable-added same law qs q keeps.evaluable fresh uses;
       evaluations =
           λ n. added n ∙ ap (λ o. if same q.key n then o else found n) new
           ∙ ap (λ o. if same q.key n then evaluation_of_body (evaluation_of same qs) q.key (Some q.body) else o) (keeps.evaluations n)
-          ∙ sym (evaluation_of-added same law qs q keeps.standing fresh uses n);
+          ∙ sym (evaluation_of-added same law qs q keeps.evaluable fresh uses n);
     }
 
 -- ---- quantities by the names of a sheet

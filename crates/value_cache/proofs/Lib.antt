@@ -1,5 +1,5 @@
 pub mod Names
 pub mod Faults
-pub mod Standing
+pub mod Evaluable
 pub mod Sound
 pub mod Adding

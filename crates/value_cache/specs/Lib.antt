@@ -1,5 +1,5 @@
 pub mod Quantities
 pub mod Evaluations
-pub mod Standing
+pub mod Evaluable
 pub mod Cells
 pub mod Model

@@ -3,7 +3,7 @@ ghost use Rattle.formula_ast.specs.Trees.{HasExponents, names_of};
 ghost use Rattle.formula_ast.specs.Views.{tree_of};
 ghost use Rattle.value_cache.specs.Quantities.{Input, Quantity, by_names, is_there};
 ghost use Rattle.value_cache.specs.Evaluations.{span_in, fault_at, first_fault, evaluation_of_formula};
-ghost use Rattle.value_cache.specs.Standing.{Keeps, with_quantity};
+ghost use Rattle.value_cache.specs.Evaluable.{Keeps, with_quantity};
 ghost use Rattle.value_cache.specs.Cells.{kept};
 
 use crate::evaluation::Evaluation;

@@ -1,4 +1,4 @@
-use Rattle.value_cache.proofs.Standing.{evaluations_same}
+use Rattle.value_cache.proofs.Evaluable.{evaluations_same}
 use Rattle.value_cache.proofs.laws.order_changes_nothing.Goals as goal
 
 pub returns : goal.returns

@@ -8,7 +8,7 @@ use mathlib.Core.Path.{fun_ext}
 use Rattle.exact_law.specs.Model.{IsSameTest}
 use Rattle.value_cache.specs.Quantities.{Body, Input, Function, Quantity, body_of, is_there}
 use Rattle.value_cache.specs.Evaluations.{Found, evaluation_of_body, evaluation_through, evaluation_of}
-use Rattle.value_cache.specs.Standing.{UsesOnly, IsStanding}
+use Rattle.value_cache.specs.Evaluable.{UsesOnly, IsEvaluable}
 use Rattle.value_cache.proofs.Names.{AllNames-map, keys_known, none_key_unknown}
 use Rattle.value_cache.proofs.Faults.{evaluation_same, is_evaluated}
 
@@ -87,24 +87,24 @@ body_same same qs found others agree row (Function f key) uses =
     (keys_known (is_there same qs) key f uses))
 
 -- a key other than the new one keeps its evaluation
-through_same : {K : Type 0} (same : K → K → Bool) → IsSameTest same → (qs : List (Quantity K)) (q : Quantity K) → IsStanding same qs
+through_same : {K : Type 0} (same : K → K → Bool) → IsSameTest same → (qs : List (Quantity K)) (q : Quantity K) → IsEvaluable same qs
     → is_there same qs q.key ≡ false → (k : ℕ) (n : K) → same q.key n ≡ false
     → evaluation_through same (qs ++ q ∷ []) k n ≡ evaluation_through same qs k n
-through_same same law qs q standing fresh zero n other = refl
-through_same same law qs q standing fresh (suc k) n other =
+through_same same law qs q evaluable fresh zero n other = refl
+through_same same law qs q evaluable fresh (suc k) n other =
     ap (evaluation_of_body (evaluation_through same (qs ++ q ∷ []) k) n) (body_of-added_other same qs q n other)
-    ∙ by (body_of same qs n) refl (λ m known. through_same same law qs q standing fresh k m (other_key same law qs q fresh m known)) where
+    ∙ by (body_of same qs n) refl (λ m known. through_same same law qs q evaluable fresh k m (other_key same law qs q fresh m known)) where
       by : (body : Option (Body _)) → body_of same qs n ≡ body
           → ((m : _) → is_there same qs m ≡ true → evaluation_through same (qs ++ q ∷ []) k m ≡ evaluation_through same qs k m)
           → evaluation_of_body (evaluation_through same (qs ++ q ∷ []) k) n body ≡ evaluation_of_body (evaluation_through same qs k) n body
       by None e agree = refl
-      by (Some body) e agree = body_same same qs _ _ agree n body (standing.closed n body e)
+      by (Some body) e agree = body_same same qs _ _ agree n body (evaluable.closed n body e)
 
-added_through : {K : Type 0} (same : K → K → Bool) → IsSameTest same → (qs : List (Quantity K)) (q : Quantity K) → IsStanding same qs
+added_through : {K : Type 0} (same : K → K → Bool) → IsSameTest same → (qs : List (Quantity K)) (q : Quantity K) → IsEvaluable same qs
     → is_there same qs q.key ≡ false → UsesOnly same qs q.body → (k : ℕ) → length qs ≤ k → (n : K)
     → evaluation_through same (qs ++ q ∷ []) (suc k) n
     ≡ (if same q.key n then evaluation_of_body (evaluation_of same qs) q.key (Some q.body) else evaluation_of same qs n)
-added_through same law qs q standing fresh uses k enough n = by (same q.key n) refl where
+added_through same law qs q evaluable fresh uses k enough n = by (same q.key n) refl where
   by : (hit : Bool) → same q.key n ≡ hit → evaluation_through same (qs ++ q ∷ []) (suc k) n
       ≡ (if hit then evaluation_of_body (evaluation_of same qs) q.key (Some q.body) else evaluation_of same qs n)
   by true e =
@@ -112,36 +112,36 @@ added_through same law qs q standing fresh uses k enough n = by (same q.key n) r
       ap (evaluation_of_body (evaluation_through same (qs ++ q ∷ []) k) n) (body_of-added_new same qs q n fresh is e)
       ∙ ap (λ m. evaluation_of_body (evaluation_through same (qs ++ q ∷ []) k) m (Some q.body)) (sym is)
       ∙ body_same same qs _ _
-      (λ m known. through_same same law qs q standing fresh k m (other_key same law qs q fresh m known) ∙ standing.settled k m enough)
+      (λ m known. through_same same law qs q evaluable fresh k m (other_key same law qs q fresh m known) ∙ evaluable.settled k m enough)
       q.key q.body uses
-  by false e = through_same same law qs q standing fresh (suc k) n e ∙ standing.settled (suc k) n (omega arith)
+  by false e = through_same same law qs q evaluable fresh (suc k) n e ∙ evaluable.settled (suc k) n (omega arith)
 
 length-added : {A : Type 0} (xs : List A) (x : A) → length (xs ++ x ∷ []) ≡ suc (length xs)
 length-added [] x = refl
 length-added (first ∷ xs) x = ap suc (length-added xs x)
 
 -- the new evaluation is found from those that stand, and they stay
-pub evaluation_of-added : {K : Type 0} (same : K → K → Bool) → IsSameTest same → (qs : List (Quantity K)) (q : Quantity K) → IsStanding same qs
+pub evaluation_of-added : {K : Type 0} (same : K → K → Bool) → IsSameTest same → (qs : List (Quantity K)) (q : Quantity K) → IsEvaluable same qs
     → is_there same qs q.key ≡ false → UsesOnly same qs q.body → (n : K) → evaluation_of same (qs ++ q ∷ []) n
     ≡ (if same q.key n then evaluation_of_body (evaluation_of same qs) q.key (Some q.body) else evaluation_of same qs n)
 unfolding evaluation_of
-evaluation_of-added same law qs q standing fresh uses n =
+evaluation_of-added same law qs q evaluable fresh uses n =
     ap (λ k. evaluation_through same (qs ++ q ∷ []) k n) (length-added qs q)
-    ∙ added_through same law qs q standing fresh uses (length qs) (omega arith) n
+    ∙ added_through same law qs q evaluable fresh uses (length qs) (omega arith) n
 
 -- ---- what has a span or a fault
-known_body : {K : Type 0} (same : K → K → Bool) (qs : List (Quantity K)) → IsStanding same qs → (row : K) (body : Body K) → UsesOnly same qs body
+known_body : {K : Type 0} (same : K → K → Bool) (qs : List (Quantity K)) → IsEvaluable same qs → (row : K) (body : Body K) → UsesOnly same qs body
     → is_some (evaluation_of_body (evaluation_of same qs) row (Some body)) ≡ true
-known_body same qs standing row (Input estimate) uses = refl
-known_body same qs standing row (Function f key) uses =
+known_body same qs evaluable row (Input estimate) uses = refl
+known_body same qs evaluable row (Function f key) uses =
     is_evaluated (λ n. evaluation_of same qs (key n)) row f
     (AllNames-map (λ n. is_there same qs (key n) ≡ true) (λ n. is_some (evaluation_of same qs (key n)) ≡ true)
-    (λ n e. standing.found (key n) ∙ e) f (keys_known (is_there same qs) key f uses))
+    (λ n e. evaluable.found (key n) ∙ e) f (keys_known (is_there same qs) key f uses))
 
 -- ---- what stands
-pub standing_empty : {K : Type 0} (same : K → K → Bool) → IsStanding same []
+pub evaluable_empty : {K : Type 0} (same : K → K → Bool) → IsEvaluable same []
 unfolding evaluation_of
-standing_empty same = record {
+evaluable_empty same = record {
   settled = λ k n within. settled k n;
   closed = λ n body e. absurd (none-some body e);
   found = λ n. refl;
@@ -150,15 +150,15 @@ standing_empty same = record {
   settled zero n = refl
   settled (suc k) n = refl
 
-pub standing-added : {K : Type 0} (same : K → K → Bool) → IsSameTest same → (qs : List (Quantity K)) (q : Quantity K) → IsStanding same qs
-    → is_there same qs q.key ≡ false → UsesOnly same qs q.body → IsStanding same (qs ++ q ∷ [])
-standing-added same law qs q standing fresh uses = record { settled = settled; closed = closed; found = found } where
+pub evaluable-added : {K : Type 0} (same : K → K → Bool) → IsSameTest same → (qs : List (Quantity K)) (q : Quantity K) → IsEvaluable same qs
+    → is_there same qs q.key ≡ false → UsesOnly same qs q.body → IsEvaluable same (qs ++ q ∷ [])
+evaluable-added same law qs q evaluable fresh uses = record { settled = settled; closed = closed; found = found } where
   settled : (k : ℕ) (n : _) → length (qs ++ q ∷ []) ≤ k
       → evaluation_through same (qs ++ q ∷ []) k n ≡ evaluation_of same (qs ++ q ∷ []) n
   settled zero n enough = absurd (omega (arith, length-added qs q))
   settled (suc k) n enough =
-      added_through same law qs q standing fresh uses k (omega (arith, length-added qs q)) n
-      ∙ sym (evaluation_of-added same law qs q standing fresh uses n)
+      added_through same law qs q evaluable fresh uses k (omega (arith, length-added qs q)) n
+      ∙ sym (evaluation_of-added same law qs q evaluable fresh uses n)
 
   closed_at : (n : _) (body : Body _) (hit : Bool) → same q.key n ≡ hit → body_of same (qs ++ q ∷ []) n ≡ Some body
       → UsesOnly same (qs ++ q ∷ []) body
@@ -166,24 +166,24 @@ standing-added same law qs q standing fresh uses = record { settled = settled; c
       let new = body_of-added_new same qs q n fresh (law.sound q.key n e) e in
       subst (UsesOnly same (qs ++ q ∷ [])) (same_Some q.body body (sym new ∙ is)) (UsesOnly-kept same qs q q.body uses)
   closed_at n body false e is =
-      UsesOnly-kept same qs q body (standing.closed n body (sym (body_of-added_other same qs q n e) ∙ is))
+      UsesOnly-kept same qs q body (evaluable.closed n body (sym (body_of-added_other same qs q n e) ∙ is))
 
   closed : (n : _) (body : Body _) → body_of same (qs ++ q ∷ []) n ≡ Some body → UsesOnly same (qs ++ q ∷ []) body
   closed n body is = closed_at n body (same q.key n) refl is
 
   found_at : (n : _) (hit : Bool) → is_some (if hit then evaluation_of_body (evaluation_of same qs) q.key (Some q.body) else evaluation_of same qs n)
       ≡ (if is_there same qs n then true else hit)
-  found_at n true = known_body same qs standing q.key q.body uses ∙ sym (either (is_there same qs n)) where
+  found_at n true = known_body same qs evaluable q.key q.body uses ∙ sym (either (is_there same qs n)) where
     either : (b : Bool) → (if b then true else true) ≡ true
     either true = refl
     either false = refl
-  found_at n false = standing.found n ∙ sym (itself (is_there same qs n)) where
+  found_at n false = evaluable.found n ∙ sym (itself (is_there same qs n)) where
     itself : (b : Bool) → (if b then true else false) ≡ b
     itself true = refl
     itself false = refl
 
   found : (n : _) → is_some (evaluation_of same (qs ++ q ∷ []) n) ≡ is_there same (qs ++ q ∷ []) n
-  found n = ap is_some (evaluation_of-added same law qs q standing fresh uses n) ∙ found_at n (same q.key n) ∙ sym (is_there-added same qs q n)
+  found n = ap is_some (evaluation_of-added same law qs q evaluable fresh uses n) ∙ found_at n (same q.key n) ∙ sym (is_there-added same qs q n)
 
 -- ---- the order in which quantities are listed
 pub evaluations_same : {K : Type 0} (same : K → K → Bool) (qs others : List (Quantity K)) → length qs ≡ length others

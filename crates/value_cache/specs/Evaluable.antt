@@ -8,7 +8,7 @@ abbrev pub UsesOnly : {K : Type 0} → (K → K → Bool) → List (Quantity K) 
 UsesOnly same qs body = first_unknown same qs (used_by body) ≡ None
 
 -- quantities that can be evaluated
-pub record IsStanding {K : Type 0} (same : K → K → Bool) (qs : List (Quantity K)) : Type 0 where
+pub record IsEvaluable {K : Type 0} (same : K → K → Bool) (qs : List (Quantity K)) : Type 0 where
   -- as many turns as there are quantities are enough
   pub settled : (k : ℕ) (n : K) → length qs ≤ k → evaluation_through same qs k n ≡ evaluation_of same qs n
   -- each uses quantities that are there
@@ -18,7 +18,7 @@ pub record IsStanding {K : Type 0} (same : K → K → Bool) (qs : List (Quantit
 
 -- these evaluations are those of the quantities
 pub record Keeps {K : Type 0} (same : K → K → Bool) (qs : List (Quantity K)) (found : Found K) : Type 0 where
-  pub standing : IsStanding same qs
+  pub evaluable : IsEvaluable same qs
   pub evaluations : (n : K) → found n ≡ evaluation_of same qs n
 
 -- one quantity more
