@@ -46,7 +46,7 @@ unused_key same law n k ns k1 n0 = by (same n k) refl where
   by true e = absurd (true≢false (sym k1 ∙ absent_once same k ns (subst (λ m. absent same m ns ≡ true) (law.sound n k e) n0)))
   by false e = refl
 
-slope-unused : {K : Type 0} (same : K → K → Bool) → IsSameTest same → (v : K → ℚ) (n : K) (ns : List K) (f : Expression K)
+pub slope-unused : {K : Type 0} (same : K → K → Bool) → IsSameTest same → (v : K → ℚ) (n : K) (ns : List K) (f : Expression K)
     → uses_only same ns f ≡ true → absent same n ns ≡ true → slope v (unit same n) f ≡ of_ℤ (pos 0)
 unfolding slope uses_only
 slope-unused same law v n ns (Num q) h n0 = refl
@@ -71,7 +71,7 @@ slope-unused same law v n ns (Pow a k) h n0 =
     ap (λ t. power_slope (value v a) k *ℚ t) (slope-unused same law v n ns a h n0)
     ∙ ring (power_slope (value v a) k ∷ []) (x0 :* Whole (pos 0)) (Whole (pos 0)) refl
 
-body_partial-unused : {K : Type 0} (same : K → K → Bool) → IsSameTest same → (v : K → ℚ) (n : K) (ns : List K) (b : Body K)
+pub body_partial-unused : {K : Type 0} (same : K → K → Bool) → IsSameTest same → (v : K → ℚ) (n : K) (ns : List K) (b : Body K)
     → body_uses_only same ns b ≡ true → absent same n ns ≡ true → body_partial same v b n ≡ of_ℤ (pos 0)
 unfolding body_partial body_uses_only
 body_partial-unused same law v n ns (Input q) h n0 = refl
