@@ -83,9 +83,10 @@ fn exact_and_overflow<L: Ledger>(rt: &impl Abort, blank: Blank) -> Result<(), Fa
     let large = Shape::Std {
         u: Dec::new(1_000_000_000, 0).ok_or("not a bound")?,
     };
-    if check(&large).is_ok() {
-        assert_eq!(rt; variance(&large, &mut steps), Err(Overflow));
+    if check(&large).is_err() {
+        return Err("a shape that states no uncertainty")?;
     }
+    assert_eq!(rt; variance(&large, &mut steps), Err(Overflow));
     Ok(())
 }
 
