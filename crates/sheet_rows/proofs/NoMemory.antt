@@ -1,5 +1,5 @@
 -- What a line gives as a row is no want of memory.
-use Rattle.std.proofs.Common.{◌≡◌, ◌≢◌, ℕ, Bool, true, false, cond, List, [], ◌∷◌, ◌+◌, length, drop, Result, Ok, Err, refl, subst}
+use Rattle.std.proofs.Common.{◌≡◌, ◌≢◌, ℕ, Bool, true, false, cond, List, [], ◌∷◌, ◌+◌, length, drop, Result, Ok, Err, IfErr, refl, subst}
 use Rattle.std.specs.Prelude.{codes, bytes_eq}
 use Rattle.decimal18.specs.Bound.{Bound}
 use Rattle.decimal18.specs.Literal.{parsed}
@@ -15,6 +15,7 @@ use Rattle.line_words.specs.Words.{Word, written_part, words_from}
 use Rattle.type_b.specs.Shapes.{checked}
 use Rattle.type_b.specs.declared.shape.ShapeFault.{ShapeFault}
 use Rattle.sheet_rows.specs.Reading.{Read, then_read, plain_word, number_in, number_word, is_other_shape, is_degrees_word, is_other_kind, other_word, std_shape, shape_word, ended, shape_checked, given_of, past_blanks, front_name, name_at, begins_equals, equals_at, formula_fault, formula_in, formula_at, let_of, row_at, row_read}
+use Rattle.sheet_rows.specs.declared.row.Row.{Row as CodeRow}
 use Rattle.sheet_rows.specs.declared.fault.RowFault.{RowFault}
 use Rattle.sheet_rows.specs.declared.fault.RowFault.TheVariants.{Syntax, NotNumber, NumberRange, UnknownFunction, BadPower, TooDeep, TooManyNodes, Negative, NotBuilt, OutOfMemory}
 
@@ -81,6 +82,14 @@ given_failed end ws =
     then_failed (shape_word end estimate.rest) _ (shape_failed end estimate.rest) (λ shape.
     then_failed (ended shape.rest) _ (ended_failed shape.rest) (λ done.
     then_failed (shape_checked (checked shape.item)) _ (checked_failed (checked shape.item)) (λ fine. tt)))))
+
+-- the reading of an input takes no memory
+pub given_takes_none : (r : Result CodeRow RowFault) (end : ℕ) (ws : List Word) → IfErr r (λ fault. given_of end ws ≡ Err fault)
+    → r ≢ Err OutOfMemory
+given_takes_none (Ok row) end ws h e = cc
+given_takes_none (Err fault) end ws h e =
+    let out : fault ≡ OutOfMemory = cc in
+    subst IfFailed (subst (λ f. given_of end ws ≡ Err f) out h) (given_failed end ws)
 
 -- ---- formulas
 fault_failed : (at : ℕ) (fault : FormulaFault) → fault ≢ FormulaMemory → IsNoMemory (formula_fault at fault)

@@ -167,6 +167,11 @@ row_at line (w ∷ ws) =
     if bytes_eq w.text (codes "let") then let_of line (w.place + length w.text) else
     Err (other_word (is_other_kind w.text) w.place)
 
+-- whether these words are to give a formula row: no other row's reading takes memory
+abbrev pub begin_formula : List Word → Bool
+begin_formula [] = false
+begin_formula (w ∷ ws) = bytes_eq w.text (codes "let")
+
 abbrev pub row_from : List ℕ → ℕ → Read Row
 row_from line from = row_at line (words_from line from)
 

@@ -1,8 +1,8 @@
-ghost use Rattle.std.specs.Prelude.{◌≡◌, ◌≤◌, length, drop, IfOk};
-ghost use Rattle.line_words.specs.Words.{words_from};
+ghost use Rattle.std.specs.Prelude.{◌≡◌, ◌≤◌, true, length, drop, IfOk, Err};
+ghost use Rattle.line_words.specs.Words.{words_from, written_part};
 ghost use Rattle.sheet_rows.specs.Rows.{row_of};
 ghost use Rattle.sheet_rows.specs.Regular.{IsRegular};
-ghost use Rattle.sheet_rows.specs.Reading.{is_other_kind, row_at, row_from, row_read};
+ghost use Rattle.sheet_rows.specs.Reading.{is_other_kind, begin_formula, row_at, row_from, row_read};
 ghost use Rattle.sheet_rows.specs.Answers.{GivesRow};
 
 use crate::fault::RowFault;
@@ -36,6 +36,7 @@ fn is_other_kind(word: &[u8]) -> bool
 fn read_written(alloc: Global, line: &[u8], at: usize) -> Result<Row, RowFault>
     requires { at ≤ length line.now }
     ensures exact { GivesRow result (row_from line.now at) }
+    ensures memory { result ≡ Err RowFault.OutOfMemory → begin_formula (words_from line.now at) ≡ true }
     ensures regular { IfOk result (λ row. IsRegular (row_of row)) }
 {
     let Some((place, word)) = next_word(line, at) else {
@@ -59,9 +60,10 @@ fn read_written(alloc: Global, line: &[u8], at: usize) -> Result<Row, RowFault>
 ///
 /// # Errors
 ///
-/// The first word or token that breaks a rule, with its place in the line, or a want of memory.
+/// The first word or token that breaks a rule, with its place in the line; out of memory for formula rows alone.
 pub fn read_row(alloc: Global, line: &[u8], from: usize) -> Result<Row, RowFault>
     ensures exact { GivesRow result (row_read line.now from) }
+    ensures memory { result ≡ Err RowFault.OutOfMemory → begin_formula (words_from (written_part line.now) from) ≡ true }
     ensures regular { IfOk result (λ row. IsRegular (row_of row)) }
 {
     let text = written_part(line);

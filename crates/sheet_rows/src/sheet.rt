@@ -2,7 +2,7 @@ ghost use Rattle.std.specs.Prelude.{◌≡◌, ◌<◌, map, length, find, None,
 ghost use Rattle.std.specs.Option.{option_map};
 ghost use Rattle.sheet_rows.specs.Rows.{empty_sheet, row_of};
 ghost use Rattle.sheet_rows.specs.Regular.{IsStanding};
-ghost use Rattle.sheet_rows.specs.Sheets.{is_named, added, set_row};
+ghost use Rattle.sheet_rows.specs.Sheets.{is_named, has_quantity, added, set_row};
 ghost use Rattle.sheet_rows.specs.Places.{place_of, code_name};
 
 use crate::row::Row;
@@ -63,6 +63,14 @@ impl Sheet {
         ensures { result ≡ place_of self.now name.now }
     {
         self.rows.get_index_of(name)
+    }
+
+    /// Whether the name is that of a quantity of the sheet.
+    pub fn has_quantity(&self, name: &Name) -> bool
+        ensures { result ≡ has_quantity self.now name.now }
+    {
+        // Here each row has one quantity, of its own name.
+        self.place_of(name).is_some()
     }
 
     /// The row at this place, counted from 0.
