@@ -1,10 +1,10 @@
 -- What a line is as a command. It is read from left to right, and the first word that breaks a rule decides; its
 -- place is counted from 1. Where the line ends too early, the place is the one behind its end.
-use Rattle.std.specs.Prelude.{ℕ, ◌+◌, ◌||◌, Bool, if◌then◌else◌, List, [], ◌∷◌, length, Option, Some, None, Result, Ok, Err, bytes_eq, codes}
+use Rattle.std.specs.Prelude.{ℕ, ◌+◌, ◌||◌, Bool, false, if◌then◌else◌, List, [], ◌∷◌, length, Option, Some, None, Result, Ok, Err, bytes_eq, codes}
 use Rattle.formula_ast.specs.Names.{is_plain_name, is_name}
 use Rattle.line_words.specs.Words.{Word, words_from, written_part}
 use Rattle.sheet_rows.specs.Rows.{Row}
-use Rattle.sheet_rows.specs.Reading.{Read as ReadRow, row_read}
+use Rattle.sheet_rows.specs.Reading.{Read as ReadRow, begin_formula, row_read}
 use Rattle.answers.specs.Commands.{Command, Add, Set, Remove, Change, Undo, Redo, Mark, Restore, Ask, AskAt}
 use Rattle.answers.specs.declared.command.Query.{Query}
 use Rattle.answers.specs.declared.command.Query.TheVariants.{Value, Dump}
@@ -116,3 +116,23 @@ line_read line = line_with line (length (written_part line)) (words_from (writte
 abbrev pub command_read : Item → Read (Option Command)
 command_read LongLine = Err TooLong
 command_read (Line line) = line_read line
+
+-- ---- whether the line is to give a formula row: no other line's reading takes memory
+abbrev pub gives_formula_with : Verb → List ℕ → Word → Bool
+gives_formula_with SetVerb line w = begin_formula (words_from (written_part line) (w.place + length w.text))
+gives_formula_with RemoveVerb line w = false
+gives_formula_with UndoVerb line w = false
+gives_formula_with RedoVerb line w = false
+gives_formula_with MarkVerb line w = false
+gives_formula_with RestoreVerb line w = false
+gives_formula_with AtVerb line w = false
+gives_formula_with AskVerb line w = false
+gives_formula_with RowVerb line w = begin_formula (words_from (written_part line) 0)
+
+abbrev pub line_gives_formula : List ℕ → List Word → Bool
+line_gives_formula line [] = false
+line_gives_formula line (w ∷ ws) = gives_formula_with (verb_of w.text) line w
+
+abbrev pub gives_formula : Item → Bool
+gives_formula LongLine = false
+gives_formula (Line line) = line_gives_formula line (words_from (written_part line) 0)

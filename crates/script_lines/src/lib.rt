@@ -15,7 +15,7 @@ mod worked;
 
 pub use decimal18::OutOfMemory;
 pub use item::Item;
-pub use laws::commands_are_never_a_want_of_memory;
+pub use laws::{commands_are_never_a_want_of_memory, commands_are_regular};
 pub use print::print_reply;
 pub use read::read_command;
 pub use splitter::Splitter;

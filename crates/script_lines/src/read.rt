@@ -1,12 +1,12 @@
 //! A line is read into the command that it is.
 
-ghost use Rattle.std.specs.Prelude.{◌≡◌, ◌+◌, ◌≤◌, length, IfOk, IfSome};
-ghost use Rattle.line_words.specs.Words.{words_from};
+ghost use Rattle.std.specs.Prelude.{◌≡◌, ◌+◌, ◌≤◌, true, length, IfOk, IfSome, Err};
+ghost use Rattle.line_words.specs.Words.{words_from, written_part};
 ghost use Rattle.sheet_rows.specs.Rows.{row_of};
 ghost use Rattle.sheet_rows.specs.Regular.{IsRegular};
-ghost use Rattle.sheet_rows.specs.Reading.{row_read};
+ghost use Rattle.sheet_rows.specs.Reading.{begin_formula, row_read};
 ghost use Rattle.answers.specs.Commands.{command_of, IsRegularCommand};
-ghost use Rattle.script_lines.specs.Commands.{row_of_line, command_with, line_read, command_read};
+ghost use Rattle.script_lines.specs.Commands.{row_of_line, command_with, line_read, command_read, gives_formula_with, line_gives_formula, gives_formula};
 ghost use Rattle.script_lines.specs.Answers.{GivesRow, GivesCommand, GivesLine};
 
 use crate::item::Item;
@@ -20,6 +20,7 @@ use std::alloc::Global;
 /// The row that the line gives from the place `from` on.
 fn read_row_at(alloc: Global, line: &[u8], from: usize) -> Result<Row, LineFault>
     ensures exact { GivesRow result (row_of_line (row_read line.now from)) }
+    ensures memory { result ≡ Err LineFault.OutOfMemory → begin_formula (words_from (written_part line.now) from) ≡ true }
     ensures regular { IfOk result (λ row. IsRegular (row_of row)) }
 {
     match read_row(alloc, line, from) {
@@ -42,6 +43,8 @@ fn read_with(
     requires { place + length word.now ≤ length text.now }
     ensures exact { GivesCommand result (command_with verb line.now (length text.now)
         (record { place = place; text = word.now }) (words_from text.now (place + length word.now))) }
+    ensures memory { result ≡ Err LineFault.OutOfMemory
+        → gives_formula_with verb line.now (record { place = place; text = word.now }) ≡ true }
     ensures regular { IfOk result (λ command. IsRegularCommand (command_of command)) }
 {
     let behind = place + word.len();
@@ -70,6 +73,7 @@ fn read_with(
 /// The command that the line is, and `None` where it has no words.
 fn read_line(alloc: Global, line: &[u8]) -> Result<Option<Command>, LineFault>
     ensures exact { GivesLine result (line_read line.now) }
+    ensures memory { result ≡ Err LineFault.OutOfMemory → line_gives_formula line.now (words_from (written_part line.now) 0) ≡ true }
     ensures regular { IfOk result (λ read. IfSome read (λ command. IsRegularCommand (command_of command))) }
 {
     let text = written_part(line);
@@ -85,9 +89,11 @@ fn read_line(alloc: Global, line: &[u8]) -> Result<Option<Command>, LineFault>
 /// # Errors
 ///
 /// [`LineFault::LongLine`] for a line that is too long; the first word or token that breaks a rule, with its
-/// place in the line, or the rule alone where the row as a whole breaks it; or a want of memory.
+/// place in the line, or the rule alone where the row as a whole breaks it; out of memory for lines that are to
+/// give a formula row alone.
 pub fn read_command(alloc: Global, item: &Item) -> Result<Option<Command>, LineFault>
     ensures exact { GivesLine result (command_read item.now) }
+    ensures memory { result ≡ Err LineFault.OutOfMemory → gives_formula item.now ≡ true }
     ensures regular { IfOk result (λ read. IfSome read (λ command. IsRegularCommand (command_of command))) }
 {
     match item {

@@ -5,7 +5,7 @@ ghost use Rattle.answers.specs.Replies.{IsRegularReply};
 ghost use Rattle.script_lines.specs.Texts.{is_memory_fault};
 
 use crate::{Item, Splitter, print_reply, read_command};
-use answers::{Answer, AskFault, HistoryFault, LineFault, MarkFault, Reply};
+use answers::{Answer, AskFault, Command, Edit, HistoryFault, LineFault, MarkFault, Query, Reply};
 use decimal18::Bytes;
 use fixed_interval::ArithFault;
 use formula_ast::Name;
@@ -122,19 +122,35 @@ const REFUSED: [(&str, LineFault); 20] = [
     ("\0", LineFault::Row(RowFault::Syntax(1))),
 ];
 
-/// Lines that are commands.
-const READ: [&str; 10] = [
-    "given X 5 std 1 # a note",
-    "set let Y=5",
-    "remove X",
-    "undo#1",
-    " redo ",
-    "mark M",
-    "restore M",
-    "value T.V",
-    "dump",
-    "at M value X",
+/// Lines that are commands, what each does, and the name of its row, quantity or mark.
+const READ: [(&str, &str, &str); 10] = [
+    ("given X 5 std 1 # a note", "add", "X"),
+    ("set let Y=5", "set", "Y"),
+    ("remove X", "remove", "X"),
+    ("undo#1", "undo", ""),
+    (" redo ", "redo", ""),
+    ("mark M", "mark", "M"),
+    ("restore M", "restore", "M"),
+    ("value T.V", "value", "T.V"),
+    ("dump", "dump", ""),
+    ("at M value X", "at", "M"),
 ];
+
+// What a command does, and the name of its row, quantity or mark.
+fn parts_of(command: &Command) -> (&'static str, Option<Name>) {
+    match command {
+        Command::Change(Edit::Add(row)) => ("add", Some(*row.name())),
+        Command::Change(Edit::Set(row)) => ("set", Some(*row.name())),
+        Command::Change(Edit::Remove(name)) => ("remove", Some(*name)),
+        Command::Undo => ("undo", None),
+        Command::Redo => ("redo", None),
+        Command::Mark(name) => ("mark", Some(*name)),
+        Command::Restore(name) => ("restore", Some(*name)),
+        Command::Ask(Query::Value(name)) => ("value", Some(*name)),
+        Command::Ask(Query::Dump) => ("dump", None),
+        Command::AskAt(name, _) => ("at", Some(*name)),
+    }
+}
 
 fn fault_of(alloc: Global, line: &str) -> Result<Option<LineFault>, Fail> {
     let item = Item::Line(Bytes::from_slice(alloc, line.as_bytes())?);
@@ -157,11 +173,16 @@ fn lines_that_are_no_commands(rt: HostRuntime) -> Result<(), Fail> {
 
 #[test]
 fn lines_that_are_commands(rt: HostRuntime) -> Result<(), Fail> {
-    for line in READ {
+    for (line, does, name) in READ {
         let item = Item::Line(Bytes::from_slice(rt.alloc(), line.as_bytes())?);
-        let Ok(Some(_)) = read_command(rt.alloc(), &item) else {
+        let Ok(Some(command)) = read_command(rt.alloc(), &item) else {
             panic!(rt; "no command: {line}");
         };
+        assert_eq!(rt;
+            parts_of(&command),
+            (does, Name::new(name.as_bytes())),
+            "at {line}"
+        );
     }
     let blank = Item::Line(Bytes::from_slice(rt.alloc(), b" # undo")?);
     let Ok(None) = read_command(rt.alloc(), &blank) else {
