@@ -1,7 +1,7 @@
 pub mod Lists
-pub mod EditsKeep
-pub mod Soundness
+pub mod Standing
 pub mod Steps
+pub mod Calls
 pub mod Names
 pub mod Walking
 pub mod Rebuilding

@@ -1,15 +1,13 @@
--- Names of rows and of quantities.
-use Rattle.std.specs.Prelude.{◌≡◌, ℕ, Bool, true, false, List, [], ◌∷◌, bytes_eq, refl}
-use Rattle.std.proofs.Common.{sym, ◌∙◌}
+-- The names of a sheet's quantities are those that its rows give.
+use Rattle.std.specs.Prelude.{◌≡◌, ℕ, Bool, true, false, if◌then◌else◌, ◌||◌, List, [], ◌∷◌, ◌++◌, map, is_some, Some, bytes_eq, refl}
+use Rattle.std.specs.List.{flat_map, list_any}
+use Rattle.std.proofs.Common.{sym, ◌∙◌, ap, ap₂}
+use Rattle.std.proofs.lemmas.List.{map-append}
 use Rattle.std.proofs.lemmas.Slice.Eq.{bytes_eq-Decides}
-use Rattle.formula_ast.specs.Trees.{uses}
-use Rattle.sheet_rows.specs.Rows.{Row, Given, Formula, name_of}
-use Rattle.sheet_rows.specs.Sheets.{has_row, has_quantity, are_known}
-use Rattle.sheet_rows.proofs.Conditions.{all_none}
-use Rattle.sheet_rows.proofs.Verdicts.{quantity_is_row, list_all_agree}
-use Rattle.value_cache.specs.Quantities.{is_there}
-use Rattle.value_cache.specs.Cells.{UsesOnly}
-use Rattle.edit_session.specs.Replies.{quantity_of, quantities}
+use Rattle.sheet_rows.specs.Rows.{Row, Given, Formula, quantities_of}
+use Rattle.sheet_rows.specs.Sheets.{quantities_in, is_quantity_in}
+use Rattle.value_cache.specs.Quantities.{Quantity, is_there}
+use Rattle.edit_session.specs.Replies.{row_quantities}
 
 both : (a b : Bool) → (a ≡ true → b ≡ true) → (b ≡ true → a ≡ true) → a ≡ b
 both true b f g = sym (f refl)
@@ -22,21 +20,27 @@ named-comm a b =
     (λ e. (bytes_eq-Decides b a).1 (sym ((bytes_eq-Decides a b).0 e)))
     (λ e. (bytes_eq-Decides a b).1 (sym ((bytes_eq-Decides b a).0 e)))
 
--- a quantity of the sheet is a row of it
-pub there-is_row : (sheet : List Row) (n : List ℕ) → is_there (quantities sheet) n ≡ has_row sheet n
-there-is_row [] n = refl
-there-is_row (row ∷ rows) n = by row (bytes_eq n (name_of row)) refl (there-is_row rows n) where
-  by : (first : Row) (same : Bool) → bytes_eq n (name_of first) ≡ same → is_there (quantities rows) n ≡ has_row rows n
-      → is_there (quantities (first ∷ rows)) n ≡ has_row (first ∷ rows) n
-  by (Given name estimate shape dof) true e rest = rw (e, named-comm name n, e) refl
-  by (Given name estimate shape dof) false e rest = rw (e, named-comm name n, e) rest
-  by (Formula name f) true e rest = rw (e, named-comm name n, e) refl
-  by (Formula name f) false e rest = rw (e, named-comm name n, e) rest
+abbrev pub names : List (Quantity (List ℕ)) → List (List ℕ)
+names qs = map (λ q. q.key) qs
 
--- a row whose names are known uses quantities that are there
-pub uses_only : (before : List Row) (row : Row) → are_known before row ≡ true → UsesOnly (quantities before) (quantity_of row).body
-uses_only before (Given name estimate shape dof) e = tt
-uses_only before (Formula name f) e =
-    all_none (is_there (quantities before)) (uses f)
-    (list_all_agree (is_there (quantities before)) (has_quantity before)
-    (λ n. there-is_row before n ∙ sym (quantity_is_row before n)) (uses f) ∙ e)
+row_names : (row : Row) → names (row_quantities row) ≡ quantities_of row
+row_names (Given name estimate shape dof) = refl
+row_names (Formula name f) = refl
+
+pub all_names : (rows : List Row) → names (flat_map row_quantities rows) ≡ quantities_in rows
+all_names [] = refl
+all_names (row ∷ rows) =
+    map-append (λ (q : Quantity (List ℕ)). q.key) (row_quantities row) (flat_map row_quantities rows)
+    ∙ ap₂ (λ a b. a ++ b) (row_names row) (all_names rows)
+
+there-named : (qs : List (Quantity (List ℕ))) (n : List ℕ) → is_there bytes_eq qs n ≡ list_any (bytes_eq n) (names qs)
+there-named [] n = refl
+there-named (q ∷ qs) n = by (bytes_eq q.key n) refl (there-named qs n) where
+  by : (same : Bool) → bytes_eq q.key n ≡ same → is_there bytes_eq qs n ≡ list_any (bytes_eq n) (names qs)
+      → is_there bytes_eq (q ∷ qs) n ≡ list_any (bytes_eq n) (names (q ∷ qs))
+  by true e rest = rw (e, sym (named-comm q.key n) ∙ e) refl
+  by false e rest = rw (e, sym (named-comm q.key n) ∙ e) rest
+
+-- a name is that of a quantity exactly where it is one of those that the rows give
+pub there-is_quantity : (rows : List Row) (n : List ℕ) → is_there bytes_eq (flat_map row_quantities rows) n ≡ is_quantity_in rows n
+there-is_quantity rows n = there-named (flat_map row_quantities rows) n ∙ ap (list_any (bytes_eq n)) (all_names rows)

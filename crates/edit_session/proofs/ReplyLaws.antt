@@ -1,68 +1,84 @@
--- What the replies of a sheet say.
-use Rattle.std.specs.Prelude.{◌≡◌, ◌↔◌, ℕ, false, List, [], ◌∷◌, ◌++◌, is_some, Option, Some, None, refl}
+-- What the replies of a sheet say of its exact law, and which names have a value.
+use Rattle.std.specs.Prelude.{◌≡◌, ◌↔◌, ℕ, Bool, true, false, if◌then◌else◌, is_some, bytes_eq, IsTrue, not, List, Option, Some, None, refl}
 use Rattle.std.proofs.Common.{sym, ◌∙◌, subst}
 use Rattle.std.proofs.lemmas.Bool.{true≢false}
-use Rattle.std.proofs.lemmas.List.{append_assoc, append-nil, map-append}
-use Rattle.fixed_interval.specs.Interval.{Interval}
-use Rattle.sheet_rows.specs.Rows.{Row, Given, Formula, name_of}
-use Rattle.sheet_rows.specs.Sheets.{has_row}
-use Rattle.value_cache.specs.Quantities.{is_there}
+use Rattle.sheet_rows.specs.Rows.{Sheet}
+use Rattle.sheet_rows.specs.Sheets.{has_quantity}
+use Rattle.sheet_rows.specs.Regular.{IsStanding}
 use Rattle.value_cache.specs.Evaluations.{evaluation_of}
-use Rattle.value_cache.specs.Cells.{IsStanding}
-use Rattle.value_cache.specs.Model.{HasValueIn}
 use Rattle.value_cache.specs.declared.evaluation.Evaluation.{Evaluation}
 use Rattle.value_cache.specs.declared.evaluation.Evaluation.TheVariants.{Enclosed, Fault}
 use Rattle.value_cache.proofs.Sound.{values_enclosed}
-use Rattle.value_cache.proofs.Standing.{standing_empty, standing-added}
+use Rattle.answers.specs.Commands.{Command, Change, Undo, Redo, Mark, Restore, Ask as AskPresent, AskAt}
+use Rattle.answers.specs.declared.command.Query.{Query}
+use Rattle.answers.specs.declared.command.Query.TheVariants.{Value as AskValue, Dump as AskDump}
 use Rattle.answers.specs.declared.fault.AskFault.TheVariants.{NoSuchResult}
-use Rattle.answers.specs.declared.reply.Answer.TheVariants.{Value}
-use Rattle.answers.specs.declared.reply.Reply.TheVariants.{Ask, Said}
-use Rattle.edit_session.specs.Replies.{quantity_of, quantities, value_reply}
-use Rattle.edit_session.specs.Calculable.{IsCalculable}
-use Rattle.edit_session.specs.Walks.{Follow}
-use Rattle.edit_session.proofs.Names.{there-is_row}
-use Rattle.edit_session.proofs.Walking.{rows_follow}
+use Rattle.answers.specs.declared.reply.Reply.TheVariants.{Ask}
+use Rattle.edit_session.specs.Replies.{quantities, value_reply, reply_to}
+use Rattle.edit_session.specs.Machine.{State, kept_as, step, reply_at}
+use Rattle.edit_session.specs.Sound.{IsSoundReply, asked, IsSoundOn}
+use Rattle.edit_session.specs.Standing.{IsStandingState}
+use Rattle.edit_session.specs.Calls.{is_refusal}
+use Rattle.edit_session.proofs.Standing.{kept-standing}
+use Rattle.edit_session.proofs.Names.{there-is_quantity}
+use Rattle.edit_session.proofs.Walking.{exponents_of_rows, evaluable}
 
-enclosed_by : (name other : List ℕ) (span : Interval) (found : Option Evaluation) → value_reply name found ≡ Said (Value other span)
-    → (name ≡ other) × (found ≡ Some (Enclosed span))
-enclosed_by name other span None e = absurd (cc)
-enclosed_by name other span (Some (Enclosed s)) e = (cc, cc)
-enclosed_by name other span (Some (Fault fault row)) e = absurd (cc)
+-- ---- soundness
+found_sound : (sheet : Sheet) → IsStanding sheet → (name : List ℕ) (found : Option (Evaluation (List ℕ)))
+    → evaluation_of bytes_eq (quantities sheet) name ≡ found → IsSoundReply sheet (value_reply name found)
+found_sound sheet h name None e = tt
+found_sound sheet h name (Some (Fault fault row)) e = tt
+found_sound sheet h name (Some (Enclosed s)) e = values_enclosed bytes_eq (quantities sheet) (exponents_of_rows sheet.rows h.regular) name s e
 
-pub reply_is_sound : (sheet : List Row) → IsCalculable sheet → (name other : List ℕ) (span : Interval)
-    → value_reply name (evaluation_of (quantities sheet) name) ≡ Said (Value other span) → HasValueIn (quantities sheet) other span
-reply_is_sound sheet h name other span e =
-    let parts = enclosed_by name other span (evaluation_of (quantities sheet) name) e in
-    subst (λ n. HasValueIn (quantities sheet) n span) parts.0 (values_enclosed (quantities sheet) h.exponents name span parts.1)
+value_sound : (sheet : Sheet) → IsStanding sheet → (name : List ℕ) (there : Bool)
+    → IsSoundReply sheet (if there then value_reply name (evaluation_of bytes_eq (quantities sheet) name) else Ask (NoSuchResult name))
+value_sound sheet h name true = found_sound sheet h name (evaluation_of bytes_eq (quantities sheet) name) refl
+value_sound sheet h name false = tt
 
--- ---- a name has a reply exactly where it is that of a row
-standing_on : (before rest : List Row) → IsStanding (quantities before) → Follow before rest → IsStanding (quantities (before ++ rest))
-standing_on before [] h follow = subst (λ rows. IsStanding (quantities rows)) (sym (append-nil before)) h
-standing_on before (row ∷ rest) h follow =
-    subst (λ rows. IsStanding (quantities rows)) (append_assoc before (row ∷ []) rest)
-    (standing_on (before ++ row ∷ []) rest
-    (subst IsStanding (sym (map-append quantity_of before (row ∷ [])))
-    (standing-added (quantities before) (quantity_of row) h (fresh row follow.0.fresh) follow.0.known)) follow.1)
-  where
-    fresh : (row : Row) → is_there (quantities before) (name_of row) ≡ false → is_there (quantities before) (quantity_of row).name ≡ false
-    fresh (Given name estimate shape dof) e = e
-    fresh (Formula name f) e = e
+pub reply_sound : (sheet : Sheet) → IsStanding sheet → (query : Query) → IsSoundReply sheet (reply_to sheet query)
+reply_sound sheet h (AskValue name) = value_sound sheet h name (has_quantity sheet name)
+reply_sound sheet h AskDump = tt
 
-found-has_row : (sheet : List Row) → IsCalculable sheet → (name : List ℕ) → is_some (evaluation_of (quantities sheet) name) ≡ has_row sheet name
-found-has_row sheet h name = (standing_on [] sheet standing_empty (rows_follow sheet h)).found name ∙ there-is_row sheet name
+kept_sound : (state : State) → IsStandingState state → (name : List ℕ) (query : Query) (o : Option Sheet) → kept_as state.marks name ≡ o
+    → IsSoundOn o (reply_at name o query)
+kept_sound state h name query None e = tt
+kept_sound state h name query (Some sheet) e = reply_sound sheet (kept-standing state.marks name sheet e h.marks) query
 
-none_found : (name : List ℕ) (found : Option Evaluation) → value_reply name found ≡ Ask (NoSuchResult name) → is_some found ≡ false
-none_found name None e = refl
-none_found name (Some (Enclosed s)) e = absurd (cc)
-none_found name (Some (Fault fault row)) e = absurd (cc)
+pub command_sound : (state : State) → IsStandingState state → (command : Command) → IsSoundOn (asked state command) (step state command).1
+command_sound state h (Change edit) = tt
+command_sound state h Undo = tt
+command_sound state h Redo = tt
+command_sound state h (Mark name) = tt
+command_sound state h (Restore name) = tt
+command_sound state h (AskPresent query) = reply_sound state.present h.present query
+command_sound state h (AskAt name query) = kept_sound state h name query (kept_as state.marks name) refl
 
-no_reply : (name : List ℕ) (found : Option Evaluation) → is_some found ≡ false → value_reply name found ≡ Ask (NoSuchResult name)
-no_reply name None e = refl
-no_reply name (Some found) e = absurd (true≢false e)
+-- ---- a name has a value exactly where it is that of a quantity
+-- a quantity of a sheet that stands has an evaluation
+pub evaluated : (sheet : Sheet) → IsStanding sheet → (name : List ℕ) → is_some (evaluation_of bytes_eq (quantities sheet) name) ≡ has_quantity sheet name
+evaluated sheet h name = (evaluable sheet h).found name ∙ there-is_quantity sheet.rows name
 
-pub unknown_exactly : (sheet : List Row) → IsCalculable sheet → (name : List ℕ)
-    → (value_reply name (evaluation_of (quantities sheet) name) ≡ Ask (NoSuchResult name)) ↔ (has_row sheet name ≡ false)
-unknown_exactly sheet h name = (
-  λ e. sym (found-has_row sheet h name) ∙ none_found name (evaluation_of (quantities sheet) name) e,
-  λ e. no_reply name (evaluation_of (quantities sheet) name) (found-has_row sheet h name ∙ e),
-)
+-- the reply for a quantity is no refusal
+fine_by : (name : List ℕ) (found : Option (Evaluation (List ℕ))) → is_some found ≡ true → IsTrue (not (is_refusal (value_reply name found)))
+fine_by name None e = absurd (true≢false (sym e))
+fine_by name (Some (Enclosed s)) e = refl
+fine_by name (Some (Fault fault row)) e = refl
+
+pub fine_reply : (sheet : Sheet) → IsStanding sheet → (name : List ℕ) → has_quantity sheet name ≡ true
+    → IsTrue (not (is_refusal (reply_to sheet (AskValue name))))
+fine_reply sheet h name e =
+    subst (λ there. IsTrue (not (is_refusal (if there then value_reply name (evaluation_of bytes_eq (quantities sheet) name) else Ask (NoSuchResult name)))))
+    (sym e) (fine_by name (evaluation_of bytes_eq (quantities sheet) name) (evaluated sheet h name ∙ e))
+
+has_reply : (name : List ℕ) (found : Option (Evaluation (List ℕ))) → is_some found ≡ true → value_reply name found ≡ Ask (NoSuchResult name) → ⊥
+has_reply name None e r = true≢false (sym e)
+has_reply name (Some (Enclosed s)) e r = cc
+has_reply name (Some (Fault fault row)) e r = cc
+
+pub unknown_exactly : (sheet : Sheet) → IsStanding sheet → (name : List ℕ)
+    → (reply_to sheet (AskValue name) ≡ Ask (NoSuchResult name)) ↔ (has_quantity sheet name ≡ false)
+unknown_exactly sheet h name = by (has_quantity sheet name) (evaluated sheet h name) where
+  by : (there : Bool) → is_some (evaluation_of bytes_eq (quantities sheet) name) ≡ there
+      → ((if there then value_reply name (evaluation_of bytes_eq (quantities sheet) name) else Ask (NoSuchResult name)) ≡ Ask (NoSuchResult name)) ↔ (there ≡ false)
+  by true e = (λ r. absurd (has_reply name (evaluation_of bytes_eq (quantities sheet) name) e r), λ f. absurd (true≢false f))
+  by false e = (λ r. refl, λ f. refl)

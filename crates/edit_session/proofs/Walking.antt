@@ -1,86 +1,135 @@
--- In a sheet whose values can be worked out each row has a new name and uses quantities of the rows before it.
+-- In a sheet that stands each row has new names and uses quantities of the rows before it.
 use Rattle.std.specs.Prelude.{◌≡◌, ℕ, suc, ◌+◌, ◌<◌, ◌≤◌, Bool, true, false, ◌||◌, not, bytes_eq, List, [], ◌∷◌, ◌++◌, map, drop, length, refl}
-use Rattle.std.specs.List.{list_all}
+use Rattle.std.specs.List.{list_all, flat_map}
 use Rattle.std.proofs.Common.{sym, ◌∙◌, ap, ap₂, subst, get_or, drop-cons, add-one}
-use Rattle.std.proofs.lemmas.List.{drop_all, append_assoc, append-nil, map-append}
-use Rattle.sheet_rows.specs.Rows.{Row, Given, Formula, name_of}
-use Rattle.sheet_rows.specs.Sheets.{has_row, are_named_once, are_known, are_earlier}
-use Rattle.value_cache.specs.Quantities.{Quantity, is_there}
+use Rattle.std.proofs.lemmas.List.{drop_all, append_assoc, append-nil, flat_map_more, map-id}
+use Rattle.formula_ast.specs.Trees.{uses}
+use Rattle.formula_ast.specs.Printing.{print}
+use Rattle.formula_ast.proofs.Exponents.{read_exponents}
+use Rattle.sheet_rows.specs.Rows.{Row, Given, Formula, Sheet, name_of}
+use Rattle.sheet_rows.specs.Sheets.{is_among, is_quantity_in, are_named_once, are_known, are_earlier}
+use Rattle.sheet_rows.specs.Regular.{AreRegular, IsStanding}
+use Rattle.sheet_rows.proofs.Conditions.{and_left, and_right, and_both, or_left, or_right, not_true, other_way, all_none}
+use Rattle.sheet_rows.proofs.Verdicts.{added_has, quantity_is_row, list_all_agree}
+use Rattle.value_cache.specs.Quantities.{is_there, first_unknown}
 use Rattle.value_cache.specs.Model.{AllHaveExponents}
-use Rattle.value_cache.specs.Cells.{Cells, Keeps}
-use Rattle.value_cache.proofs.Adding.{keeps_empty, unknown_same}
-use Rattle.edit_session.specs.Replies.{quantity_of, quantities}
-use Rattle.edit_session.specs.Calculable.{IsCalculable}
-use Rattle.edit_session.specs.Walks.{KnowsUses, IsNext, Follow, IsWalked}
-use Rattle.sheet_rows.proofs.Conditions.{and_left, and_right, and_both, or_left, or_right, not_true, other_way}
-use Rattle.sheet_rows.proofs.Verdicts.{added_has}
-use Rattle.edit_session.proofs.Names.{there-is_row, uses_only}
+use Rattle.value_cache.specs.Evaluable.{IsEvaluable, Keeps}
+use Rattle.value_cache.specs.Cells.{Cells, kept}
+use Rattle.value_cache.proofs.Adding.{same_names, keeps_empty, unknown_same, uses_names}
+use Rattle.value_cache.proofs.Evaluable.{evaluable_empty, evaluable-added}
+use Rattle.edit_session.specs.Replies.{row_quantities, quantities}
+use Rattle.edit_session.specs.Walks.{Quantities, KnowsUses, AreFresh, AllUseOnly, IsNext, Follow, IsWalked}
+use Rattle.edit_session.proofs.Names.{there-is_quantity}
+
+-- ---- rows
+pub exponents_of_rows : (rows : List Row) → AreRegular rows → AllHaveExponents (flat_map row_quantities rows)
+exponents_of_rows [] h = tt
+exponents_of_rows (Given name estimate shape dof ∷ rows) h = (tt, exponents_of_rows rows h.1)
+exponents_of_rows (Formula name f ∷ rows) h = (read_exponents (print f) f h.0.1, exponents_of_rows rows h.1)
+
+-- a row with a new name has quantities with new names
+fresh_by : (before : List Row) (row : Row) → is_among before (name_of row) ≡ false
+    → AreFresh (flat_map row_quantities before) (row_quantities row)
+fresh_by before (Given name estimate shape dof) e = (there-is_quantity before name ∙ quantity_is_row before name ∙ e, tt)
+fresh_by before (Formula name f) e = (there-is_quantity before name ∙ quantity_is_row before name ∙ e, tt)
+
+-- a row whose names are known uses quantities that are there
+known_by : (before : List Row) (row : Row) → are_known before row ≡ true → AllUseOnly (flat_map row_quantities before) (row_quantities row)
+known_by before (Given name estimate shape dof) e = (refl, tt)
+known_by before (Formula name f) e = (
+  uses_names (flat_map row_quantities before) f
+      (all_none (is_there bytes_eq (flat_map row_quantities before)) (uses f)
+      (list_all_agree (is_there bytes_eq (flat_map row_quantities before)) (is_quantity_in before) (there-is_quantity before) (uses f) ∙ e)),
+  tt,
+)
 
 -- ---- the rows of a sheet follow each other
 -- no row of these has the name of one of the rows before
 abbrev are_apart : List Row → List Row → Bool
-are_apart before rest = list_all (λ row. not (has_row before (name_of row))) rest
+are_apart before rest = list_all (λ row. not (is_among before (name_of row))) rest
 
-apart_added : (before : List Row) (row : Row) (rest : List Row) → are_apart before rest ≡ true → has_row rest (name_of row) ≡ false
+apart_added : (before : List Row) (row : Row) (rest : List Row) → are_apart before rest ≡ true → is_among rest (name_of row) ≡ false
     → are_apart (before ++ row ∷ []) rest ≡ true
 apart_added before row [] e f = refl
 apart_added before row (next ∷ rest) e f =
-    and_both (not (has_row (before ++ row ∷ []) (name_of next))) (are_apart (before ++ row ∷ []) rest)
+    and_both (not (is_among (before ++ row ∷ []) (name_of next))) (are_apart (before ++ row ∷ []) rest)
     (ap not (added_has before row (name_of next)
-    ∙ ap₂ (λ a b. a || b) (not_true (has_row before (name_of next)) (and_left (not (has_row before (name_of next))) (are_apart before rest) e))
-    (other_way (name_of row) (name_of next) (or_left (bytes_eq (name_of row) (name_of next)) (has_row rest (name_of row)) f))))
-    (apart_added before row rest (and_right (not (has_row before (name_of next))) (are_apart before rest) e) (or_right (bytes_eq (name_of row) (name_of next)) (has_row rest (name_of row)) f))
+    ∙ ap₂ (λ a b. a || b) (not_true (is_among before (name_of next)) (and_left (not (is_among before (name_of next))) (are_apart before rest) e))
+    (other_way (name_of row) (name_of next) (or_left (bytes_eq (name_of row) (name_of next)) (is_among rest (name_of row)) f))))
+    (apart_added before row rest (and_right (not (is_among before (name_of next))) (are_apart before rest) e) (or_right (bytes_eq (name_of row) (name_of next)) (is_among rest (name_of row)) f))
 
 follow : (before rest : List Row) → are_apart before rest ≡ true → are_named_once rest ≡ true → are_earlier before rest ≡ true
-    → AllHaveExponents (quantities rest) → Follow before rest
-follow before [] apart once earlier exponents = tt
-follow before (row ∷ rest) apart once earlier exponents = (
+    → AreRegular rest → Follow before rest
+follow before [] apart once earlier regular = tt
+follow before (row ∷ rest) apart once earlier regular = (
   record {
     fresh =
-        there-is_row before (name_of row)
-        ∙ not_true (has_row before (name_of row)) (and_left (not (has_row before (name_of row))) (are_apart before rest) apart);
-    known = uses_only before row (and_left (are_known before row) (are_earlier (before ++ row ∷ []) rest) earlier);
-    exponents = exponents.0;
+        fresh_by before row
+        (not_true (is_among before (name_of row)) (and_left (not (is_among before (name_of row))) (are_apart before rest) apart));
+    known = known_by before row (and_left (are_known before row) (are_earlier (before ++ row ∷ []) rest) earlier);
+    regular = regular.0;
   },
   follow (before ++ row ∷ []) rest
-      (apart_added before row rest (and_right (not (has_row before (name_of row))) (are_apart before rest) apart)
-      (not_true (has_row rest (name_of row)) (and_left (not (has_row rest (name_of row))) (are_named_once rest) once)))
-      (and_right (not (has_row rest (name_of row))) (are_named_once rest) once)
+      (apart_added before row rest (and_right (not (is_among before (name_of row))) (are_apart before rest) apart)
+      (not_true (is_among rest (name_of row)) (and_left (not (is_among rest (name_of row))) (are_named_once rest) once)))
+      (and_right (not (is_among rest (name_of row))) (are_named_once rest) once)
       (and_right (are_known before row) (are_earlier (before ++ row ∷ []) rest) earlier)
-      exponents.1,
+      regular.1,
 )
 
 none_before : (rows : List Row) → are_apart [] rows ≡ true
 none_before [] = refl
 none_before (row ∷ rows) = none_before rows
 
-pub rows_follow : (sheet : List Row) → IsCalculable sheet → Follow [] sheet
-rows_follow sheet h = follow [] sheet (none_before sheet) h.well_formed.once h.well_formed.earlier h.exponents
+pub rows_follow : (sheet : Sheet) → IsStanding sheet → Follow [] sheet.rows
+rows_follow sheet h = follow [] sheet.rows (none_before sheet.rows) h.well_formed.once h.well_formed.earlier h.regular
+
+-- ---- the quantities of a sheet can be evaluated
+more_evaluable : (qs more : Quantities) → IsEvaluable bytes_eq qs → AreFresh qs more → AllUseOnly qs more → IsEvaluable bytes_eq (qs ++ more)
+more_evaluable qs [] h fresh uses = subst (IsEvaluable bytes_eq) (sym (append-nil qs)) h
+more_evaluable qs (q ∷ more) h fresh uses =
+    subst (IsEvaluable bytes_eq) (append_assoc qs (q ∷ []) more)
+    (more_evaluable (qs ++ q ∷ []) more (evaluable-added bytes_eq same_names qs q h fresh.0 uses.0) fresh.1 uses.1)
+
+rows_evaluable : (before rest : List Row) → IsEvaluable bytes_eq (flat_map row_quantities before) → Follow before rest
+    → IsEvaluable bytes_eq (flat_map row_quantities (before ++ rest))
+rows_evaluable before [] h next = subst (λ rows. IsEvaluable bytes_eq (flat_map row_quantities rows)) (sym (append-nil before)) h
+rows_evaluable before (row ∷ rest) h next =
+    subst (λ rows. IsEvaluable bytes_eq (flat_map row_quantities rows)) (append_assoc before (row ∷ []) rest)
+    (rows_evaluable (before ++ row ∷ []) rest
+    (subst (IsEvaluable bytes_eq) (flat_map_more row_quantities [] before row)
+    (more_evaluable (flat_map row_quantities before) (row_quantities row) h next.0.fresh next.0.known)) next.1)
+
+pub evaluable : (sheet : Sheet) → IsStanding sheet → IsEvaluable bytes_eq (quantities sheet)
+evaluable sheet h = rows_evaluable [] sheet.rows (evaluable_empty bytes_eq) (rows_follow sheet h)
 
 -- ---- the walk
-pub walk_begins : (sheet rest : List Row) → IsCalculable sheet → rest ≡ sheet → IsWalked sheet rest []
+pub walk_begins : (sheet : Sheet) (rest : List Row) → IsStanding sheet → rest ≡ sheet.rows → IsWalked sheet.rows rest []
 walk_begins sheet rest h e =
-    record { before = []; whole = e; keeps = keeps_empty; follow = subst (Follow []) (sym e) (rows_follow sheet h) }
+    record { before = []; whole = e; keeps = keeps_empty bytes_eq; follow = subst (Follow []) (sym e) (rows_follow sheet h) }
 
-pub knows_uses : (before : List Row) (row : Row) (cells : Cells) → Keeps (quantities before) cells → IsNext before row → KnowsUses cells row
+pub knows_uses : (before : List Row) (row : Row) (cells : Cells) → Keeps bytes_eq (flat_map row_quantities before) (kept cells) → IsNext before row
+    → KnowsUses cells row
 knows_uses before (Given name estimate shape dof) cells keeps next = tt
-knows_uses before (Formula name f) cells keeps next = unknown_same (quantities before) cells keeps f ∙ next.known
+knows_uses before (Formula name f) cells keeps next =
+    unknown_same (flat_map row_quantities before) cells keeps f
+    ∙ ap (first_unknown bytes_eq (flat_map row_quantities before)) (sym (map-id (uses f))) ∙ next.known.0
 
-pub walked_on : (sheet rest : List Row) (row : Row) (cells cells' : Cells) → IsWalked sheet (row ∷ rest) cells
-    → ((qs : List Quantity) → Keeps qs cells → is_there qs (name_of row) ≡ false → Keeps (qs ++ quantity_of row ∷ []) cells')
-    → IsWalked sheet rest cells'
-walked_on sheet rest row cells cells' walked add = record {
+pub walked_on : (rows rest : List Row) (row : Row) (cells cells' : Cells) → IsWalked rows (row ∷ rest) cells
+    → ((qs : Quantities) → Keeps bytes_eq qs (kept cells) → AreFresh qs (row_quantities row) → Keeps bytes_eq (qs ++ row_quantities row) (kept cells'))
+    → IsWalked rows rest cells'
+walked_on rows rest row cells cells' walked add = record {
   before = walked.before ++ row ∷ [];
   whole = append_assoc walked.before (row ∷ []) rest ∙ walked.whole;
   keeps =
-      subst (λ qs. Keeps qs cells') (sym (map-append quantity_of walked.before (row ∷ [])))
-      (add (quantities walked.before) walked.keeps walked.follow.0.fresh);
+      subst (λ qs. Keeps bytes_eq qs (kept cells')) (flat_map_more row_quantities [] walked.before row)
+      (add (flat_map row_quantities walked.before) walked.keeps walked.follow.0.fresh);
   follow = walked.follow.1;
 }
 
-pub walk_ends : (sheet : List Row) (cells : Cells) → IsWalked sheet [] cells → Keeps (quantities sheet) cells
+pub walk_ends : (sheet : Sheet) (cells : Cells) → IsWalked sheet.rows [] cells → Keeps bytes_eq (quantities sheet) (kept cells)
 walk_ends sheet cells walked =
-    subst (λ rows. Keeps (quantities rows) cells) (sym (append-nil walked.before) ∙ walked.whole) walked.keeps
+    subst (λ rows. Keeps bytes_eq (flat_map row_quantities rows) (kept cells)) (sym (append-nil walked.before) ∙ walked.whole) walked.keeps
 
 -- ---- the rows that are left
 pub left_next : {A B : Type 0} (f : A → B) (items : List A) (i : ℕ) (x : A) → x ≡ get_or items i x → i < length items

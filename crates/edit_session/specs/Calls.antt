@@ -1,8 +1,8 @@
 -- What the calls of a session answer, as replies of the machine.
-use Rattle.std.specs.Prelude.{◌≡◌, Option, None, Some, Result, Ok, Err}
+use Rattle.std.specs.Prelude.{◌≡◌, Bool, true, false, not, IsTrue, Option, None, Some, Result, Ok, Err}
 use Rattle.sheet_rows.specs.declared.edit_fault.EditFault.{EditFault}
 use Rattle.sheet_rows.specs.declared.edit_fault.EditFault.TheVariants.{RowsFull, Duplicate, Unknown, NotEarlier, InUse, OutOfMemory as NoMemoryToEdit}
-use Rattle.answers.specs.Commands.{Command}
+use Rattle.answers.specs.Commands.{Command, Change, Undo, Redo, Mark as MarkPresent, Restore, Ask as AskPresent, AskAt}
 use Rattle.answers.specs.declared.fault.AskFault.{AskFault}
 use Rattle.answers.specs.declared.fault.AskFault.TheVariants.{NoMark as NothingAsked, NoSuchResult, OutOfMemory as NoMemoryToAsk}
 use Rattle.answers.specs.declared.fault.HistoryFault.{HistoryFault}
@@ -11,7 +11,7 @@ use Rattle.answers.specs.declared.fault.MarkFault.{MarkFault}
 use Rattle.answers.specs.declared.fault.MarkFault.TheVariants.{MarksFull, NoMark, OutOfMemory as NoMemoryToMark}
 use Rattle.answers.specs.declared.reply.Answer.{Answer}
 use Rattle.answers.specs.declared.reply.Reply.{Reply}
-use Rattle.answers.specs.declared.reply.Reply.TheVariants.{Fine, Edit, History, Mark, Ask, Said}
+use Rattle.answers.specs.declared.reply.Reply.TheVariants.{Fine, Line, Edit, History, Mark, Ask, Said}
 use Rattle.edit_session.specs.Machine.{State, step}
 
 -- ---- the reply; none where there was no memory
@@ -42,12 +42,33 @@ ask_reply (Err NoMemoryToAsk) = None
 ask_reply (Err (NothingAsked name)) = Some (Ask (NothingAsked name))
 ask_reply (Err (NoSuchResult name)) = Some (Ask (NoSuchResult name))
 
--- ---- the call does the machine's step, or finds no memory and leaves the state as it was
+-- ---- out of memory
+abbrev pub is_refusal : Reply → Bool
+is_refusal Fine = false
+is_refusal (Said answer) = false
+is_refusal (Line fault) = true
+is_refusal (Edit fault) = true
+is_refusal (History fault) = true
+is_refusal (Mark fault) = true
+is_refusal (Ask fault) = true
+
+-- where a call may want memory: for an edit at any time, for a step forward never, and for the others to carry
+-- the command out, but not to refuse it
+abbrev pub may_want_memory : State → Command → Bool
+may_want_memory state (Change edit) = true
+may_want_memory state Redo = false
+may_want_memory state Undo = not (is_refusal (step state Undo).1)
+may_want_memory state (MarkPresent name) = not (is_refusal (step state (MarkPresent name)).1)
+may_want_memory state (Restore name) = not (is_refusal (step state (Restore name)).1)
+may_want_memory state (AskPresent query) = not (is_refusal (step state (AskPresent query)).1)
+may_want_memory state (AskAt name query) = not (is_refusal (step state (AskAt name query)).1)
+
+-- ---- the call does the machine's step, or finds no memory where it may want some, and leaves the state as it was
 abbrev pub Does : State → Command → State → Option Reply → Type 0
-Does old command new None = new ≡ old
+Does old command new None = (new ≡ old) × IsTrue (may_want_memory old command)
 Does old command new (Some reply) = step old command ≡ (new, reply)
 
--- the call gives this reply, or finds no memory
+-- the call gives this reply, or finds no memory for one that is no refusal
 abbrev pub Gives : Option Reply → Reply → Type 0
-Gives None reply = Unit {0}
+Gives None reply = IsTrue (not (is_refusal reply))
 Gives (Some given) reply = given ≡ reply

@@ -1,6 +1,8 @@
 pub mod Replies
 pub mod Machine
-pub mod Calculable
+pub mod Sound
+pub mod Live
+pub mod Standing
 pub mod States
 pub mod Calls
 pub mod Walks

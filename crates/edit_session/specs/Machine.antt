@@ -2,7 +2,7 @@
 -- those that are kept under names.
 use Rattle.std.specs.Prelude.{ℕ, Bool, true, false, ◌-◌, ◌||◌, nat_lt, is_some, if◌then◌else◌, List, [], ◌∷◌, ◌++◌, length, take, drop, slice_get, Option, None, Some, Ok, Err, bytes_eq}
 use Rattle.std.specs.Map.{lookup}
-use Rattle.sheet_rows.specs.Rows.{Row}
+use Rattle.sheet_rows.specs.Rows.{Sheet, empty_sheet}
 use Rattle.sheet_rows.specs.Sheets.{Verdict, verdict_add, verdict_set, verdict_remove}
 use Rattle.answers.specs.declared.command.Query.{Query}
 use Rattle.answers.specs.Commands.{Edit, Add, Set, Remove, Command, Change, Undo, Redo, Mark, Restore, Ask, AskAt}
@@ -16,18 +16,18 @@ use Rattle.edit_session.specs.Replies.{reply_to}
 -- ---- states
 -- sheets by the names under which they are kept
 abbrev pub Marks : Type 0
-Marks = List (List ℕ × List Row)
+Marks = List (List ℕ × Sheet)
 
 pub record State : Type 0 where
-  pub present : List Row
+  pub present : Sheet
   -- where undo leads, the next one last
-  pub past : List (List Row)
+  pub past : List Sheet
   -- where redo leads, the next one first
-  pub future : List (List Row)
+  pub future : List Sheet
   pub marks : Marks
 
 abbrev pub initial : State
-initial = record { present = []; past = []; future = []; marks = [] }
+initial = record { present = empty_sheet; past = []; future = []; marks = [] }
 
 -- a state, and the reply that came with it
 abbrev pub Step : Type 0
@@ -38,21 +38,21 @@ abbrev pub past_limit : ℕ
 past_limit = 256
 
 -- the past with one sheet more, without the oldest beyond the limit
-abbrev pub past_with : List (List Row) → List Row → List (List Row)
+abbrev pub past_with : List Sheet → Sheet → List Sheet
 past_with past sheet = drop (length (past ++ sheet ∷ []) - past_limit) (past ++ sheet ∷ [])
 
-abbrev pub last_of : List (List Row) → Option (List Row)
+abbrev pub last_of : List Sheet → Option Sheet
 last_of past = slice_get past (length past - 1)
 
-abbrev pub before_last : List (List Row) → List (List Row)
+abbrev pub before_last : List Sheet → List Sheet
 before_last past = take (length past - 1) past
 
 -- ---- edits
 -- the sheet after an accepted edit is the present one, and the one before it the last of the past
-abbrev pub accepted : State → List Row → State
+abbrev pub accepted : State → Sheet → State
 accepted state sheet = record { present = sheet; past = past_with state.past state.present; future = []; marks = state.marks }
 
-abbrev pub verdict : List Row → Edit → Verdict
+abbrev pub verdict : Sheet → Edit → Verdict
 verdict sheet (Add row) = verdict_add sheet row
 verdict sheet (Set row) = verdict_set sheet row
 verdict sheet (Remove name) = verdict_remove sheet name
@@ -62,12 +62,12 @@ edited state (Ok sheet) = (accepted state sheet, Fine)
 edited state (Err fault) = (state, EditRefused fault)
 
 -- ---- undo and redo
-abbrev pub undone : State → Option (List Row) → Step
+abbrev pub undone : State → Option Sheet → Step
 undone state None = (state, HistoryRefused NothingToUndo)
 undone state (Some sheet) =
     (record { present = sheet; past = before_last state.past; future = state.present ∷ state.future; marks = state.marks }, Fine)
 
-abbrev pub redone : State → List (List Row) → Step
+abbrev pub redone : State → List Sheet → Step
 redone state [] = (state, HistoryRefused NothingToRedo)
 redone state (sheet ∷ future) =
     (record { present = sheet; past = past_with state.past state.present; future = future; marks = state.marks }, Fine)
@@ -76,11 +76,11 @@ redone state (sheet ∷ future) =
 abbrev pub mark_limit : ℕ
 mark_limit = 16
 
-abbrev pub kept_as : Marks → List ℕ → Option (List Row)
+abbrev pub kept_as : Marks → List ℕ → Option Sheet
 kept_as marks name = lookup (bytes_eq name) marks
 
 -- the sheet is kept under the name, in the place of the one that was
-abbrev pub with_mark : Marks → List ℕ → List Row → Marks
+abbrev pub with_mark : Marks → List ℕ → Sheet → Marks
 with_mark [] name sheet = (name, sheet) ∷ []
 with_mark (mark ∷ marks) name sheet = if bytes_eq name mark.0 then (mark.0, sheet) ∷ marks else mark ∷ with_mark marks name sheet
 
@@ -93,13 +93,13 @@ marked state name true =
 abbrev pub may_mark : Marks → List ℕ → Bool
 may_mark marks name = is_some (kept_as marks name) || nat_lt (length marks) mark_limit
 
-abbrev pub restored : State → List ℕ → Option (List Row) → Step
+abbrev pub restored : State → List ℕ → Option Sheet → Step
 restored state name None = (state, MarkRefused (NoMark name))
 restored state name (Some sheet) = (accepted state sheet, Fine)
 
 -- ---- queries
 -- the reply to a query of the sheet that is kept under the name
-abbrev pub reply_at : List ℕ → Option (List Row) → Query → Reply
+abbrev pub reply_at : List ℕ → Option Sheet → Query → Reply
 reply_at name None query = AskRefused (NothingAsked name)
 reply_at name (Some sheet) query = reply_to sheet query
 

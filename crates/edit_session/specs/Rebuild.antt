@@ -3,7 +3,7 @@ use Rattle.std.specs.Prelude.{◌≡◌, List, [], ◌∷◌, ◌++◌, map}
 use Rattle.fixed_interval.specs.Rules.{zero_bound}
 use Rattle.type_b.specs.declared.shape.Shape.TheVariants.{Exact}
 use Rattle.type_b.specs.declared.shape.Dof.TheVariants.{Inf}
-use Rattle.sheet_rows.specs.Rows.{Row, Given, Formula}
+use Rattle.sheet_rows.specs.Rows.{Row, Given, Formula, Sheet}
 use Rattle.answers.specs.declared.command.Query.{Query}
 use Rattle.answers.specs.declared.reply.Reply.TheVariants.{Fine}
 use Rattle.answers.specs.Commands.{Command, Change, Add, Set, Ask}
@@ -16,15 +16,15 @@ as_input (Given name estimate shape dof) = Given name estimate shape dof
 as_input (Formula name formula) = Given name zero_bound Exact Inf
 
 abbrev pub additions : List Row → List Command
-additions sheet = map (λ row. Change (Add (as_input row))) sheet
+additions rows = map (λ row. Change (Add (as_input row))) rows
 
 abbrev pub formulas_set : List Row → List Command
 formulas_set [] = []
 formulas_set (Given name estimate shape dof ∷ rows) = formulas_set rows
 formulas_set (Formula name formula ∷ rows) = Change (Set (Formula name formula)) ∷ formulas_set rows
 
-abbrev pub rebuild : List Row → List Command
-rebuild sheet = additions sheet ++ formulas_set sheet
+abbrev pub rebuild : Sheet → List Command
+rebuild sheet = additions sheet.rows ++ formulas_set sheet.rows
 
 -- ---- runs
 -- the state after these commands
@@ -39,7 +39,7 @@ AreFine state (command ∷ commands) = ((step state command).1 ≡ Fine) × AreF
 
 -- a run from an empty session over these commands builds the sheet, and the query that follows has the
 -- reply of the sheet
-pub record IsBuiltBy (commands : List Command) (sheet : List Row) : Type 0 where
+pub record IsBuiltBy (commands : List Command) (sheet : Sheet) : Type 0 where
   pub fine : AreFine initial commands
   pub built : (state_after initial commands).present ≡ sheet
   pub reply : (query : Query) → (step (state_after initial commands) (Ask query)).1 ≡ reply_to sheet query

@@ -1,7 +1,9 @@
 -- The reply of a sheet to a query.
-use Rattle.std.specs.Prelude.{ℕ, List, map, Option, None, Some}
-use Rattle.sheet_rows.specs.Rows.{Row, Given, Formula}
-use Rattle.value_cache.specs.Quantities.{Input, Function, Quantity}
+use Rattle.std.specs.Prelude.{ℕ, if◌then◌else◌, List, [], ◌∷◌, Option, None, Some, bytes_eq}
+use Rattle.std.specs.List.{flat_map}
+use Rattle.sheet_rows.specs.Rows.{Row, Given, Formula, Sheet}
+use Rattle.sheet_rows.specs.Sheets.{has_quantity}
+use Rattle.value_cache.specs.Quantities.{Input, Quantity, by_names}
 use Rattle.value_cache.specs.Evaluations.{evaluation_of}
 use Rattle.value_cache.specs.declared.evaluation.Evaluation.{Evaluation}
 use Rattle.value_cache.specs.declared.evaluation.Evaluation.TheVariants.{Enclosed, Fault}
@@ -13,20 +15,25 @@ use Rattle.answers.specs.declared.reply.Reply.{Reply}
 use Rattle.answers.specs.declared.reply.Reply.TheVariants.{Ask, Said}
 
 -- ---- the quantities of a sheet
-abbrev pub quantity_of : Row → Quantity
-quantity_of (Given name estimate shape dof) = record { name = name; body = Input estimate }
-quantity_of (Formula name formula) = record { name = name; body = Function formula }
+-- those of a row, in their order, under the names that have a value by it. A row may have none, or several
+abbrev pub row_quantities : Row → List (Quantity (List ℕ))
+row_quantities (Given name estimate shape dof) = record { key = name; body = Input estimate } ∷ []
+row_quantities (Formula name formula) = record { key = name; body = by_names formula } ∷ []
 
-abbrev pub quantities : List Row → List Quantity
-quantities sheet = map quantity_of sheet
+-- those of its rows, joined
+abbrev pub quantities : Sheet → List (Quantity (List ℕ))
+quantities sheet = flat_map row_quantities sheet.rows
 
 -- ---- replies
--- the span of the quantity of this name, or the fault in its place with the row in which it arose
-abbrev pub value_reply : List ℕ → Option Evaluation → Reply
+-- the span of a quantity, or the fault in its place with the row in which it arose. Each quantity of a
+-- well-formed sheet has an evaluation
+abbrev pub value_reply : List ℕ → Option (Evaluation (List ℕ)) → Reply
 value_reply name None = Ask (NoSuchResult name)
 value_reply name (Some (Enclosed span)) = Said (Value name span)
 value_reply name (Some (Fault fault row)) = Said (ValueFault fault row)
 
-abbrev pub reply_to : List Row → Query → Reply
-reply_to sheet (AskValue name) = value_reply name (evaluation_of (quantities sheet) name)
-reply_to sheet AskDump = Said (Dump sheet)
+-- whether a name has a value is decided first, by the sheet alone
+abbrev pub reply_to : Sheet → Query → Reply
+reply_to sheet (AskValue name) =
+    if has_quantity sheet name then value_reply name (evaluation_of bytes_eq (quantities sheet) name) else Ask (NoSuchResult name)
+reply_to sheet AskDump = Said (Dump sheet.rows)

@@ -1,33 +1,35 @@
-ghost use Rattle.std.specs.Prelude.{◌≡◌, IfOk};
-ghost use Rattle.sheet_rows.specs.Places.{sheet_of};
+ghost use Rattle.std.specs.Prelude.{◌≡◌, IfOk, OnOk};
+ghost use Rattle.sheet_rows.specs.Regular.{AreRegular};
 ghost use Rattle.answers.specs.declared.command.Query.TheVariants.{Value as AskValue};
+ghost use Rattle.answers.specs.Replies.{IsRegularAnswer};
 ghost use Rattle.edit_session.specs.Replies.{reply_to};
-ghost use Rattle.edit_session.specs.Calculable.{IsCalculable};
+ghost use Rattle.edit_session.specs.Sound.{IsSoundAnswer};
 ghost use Rattle.edit_session.specs.Calls.{ask_reply, Gives};
 
 use crate::valuing::values_of;
-use answers::{Answer, AskFault, Query, RowList};
+use answers::{Answer, AskFault, Query};
 use decimal18::OutOfMemory;
 use fixed_interval::Steps;
 use formula_ast::Name;
-use sheet_rows::Sheet;
-use value_cache::Evaluation;
+use sheet_rows::{RowList, Sheet};
 use std::alloc::Global;
 use std::sync::ledger::Ledger;
+use value_cache::Evaluation;
 
 /// Asks a sheet.
 ///
 /// # Errors
 ///
-/// [`AskFault::NoSuchResult`] exactly where the query names no quantity, but for want of memory.
+/// [`AskFault::NoSuchResult`] exactly where the query names no quantity of the sheet.
 pub(crate) fn ask_sheet<L: Ledger>(
     alloc: Global,
     sheet: &Sheet,
     query: &Query,
     steps: &mut Steps<L>,
 ) -> Result<Answer, AskFault>
-    requires { IsCalculable (sheet_of sheet.now) }
-    ensures { Gives (ask_reply result) (reply_to (sheet_of sheet.now) query.now) }
+    ensures reply { Gives (ask_reply result) (reply_to sheet.now query.now) }
+    ensures sound { IfOk result (λ answer. IsSoundAnswer sheet.now answer) }
+    ensures regular { IfOk result IsRegularAnswer }
 {
     match query {
         Query::Value(name) => value_of(alloc, sheet, *name, steps),
@@ -38,21 +40,24 @@ pub(crate) fn ask_sheet<L: Ledger>(
     }
 }
 
-// The value of the quantity of this name.
+// The value of the quantity of this name, where there is one.
 fn value_of<L: Ledger>(
     alloc: Global,
     sheet: &Sheet,
     name: Name,
     steps: &mut Steps<L>,
 ) -> Result<Answer, AskFault>
-    requires { IsCalculable (sheet_of sheet.now) }
-    ensures { Gives (ask_reply result) (reply_to (sheet_of sheet.now) (AskValue name)) }
+    ensures reply { Gives (ask_reply result) (reply_to sheet.now (AskValue name)) }
+    ensures sound { IfOk result (λ answer. IsSoundAnswer sheet.now answer) }
+    ensures regular { IfOk result IsRegularAnswer }
 {
-    let values = values_of(alloc, sheet, steps)?;
-    let Some(evaluation) = values.get(name) else {
+    if !sheet.has_quantity(&name) {
         return Err(AskFault::NoSuchResult(name));
-    };
-    match evaluation {
+    }
+    // The sheet stands, as the contract of `rows` says, so that each of its quantities has an evaluation.
+    let _rows = sheet.rows();
+    let values = values_of(alloc, sheet, steps)?;
+    match values.get(name).unwrap() {
         Evaluation::Enclosed(span) => Ok(Answer::Value(name, span)),
         Evaluation::Fault(fault, row) => Ok(Answer::ValueFault(fault, row)),
     }
@@ -60,9 +65,10 @@ fn value_of<L: Ledger>(
 
 // The rows of a sheet.
 fn rows_of(alloc: Global, sheet: &Sheet) -> Result<RowList, OutOfMemory>
-    ensures { IfOk result (λ rows. rows ≡ sheet_of sheet.now) }
+    ensures rows { IfOk result (λ rows. rows ≡ sheet.now.rows) }
+    ensures regular { OnOk result (AreRegular sheet.now.rows) }
 {
-    let mut rows = RowList::new(alloc);
+    let mut rows = RowList::new(alloc)?;
     for row in sheet.rows() {
         rows.push(row.clone()?)?;
     }

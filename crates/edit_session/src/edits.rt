@@ -1,8 +1,8 @@
 ghost use Rattle.std.specs.Prelude.{◌≡◌, OnErr};
-ghost use Rattle.sheet_rows.specs.Sheets.{IsWellFormed};
-ghost use Rattle.sheet_rows.specs.Places.{sheet_of, IsVerdict};
 ghost use Rattle.sheet_rows.specs.Rows.{row_of};
-ghost use Rattle.answers.specs.Commands.{edit_of, Set as SetRow};
+ghost use Rattle.sheet_rows.specs.Regular.{IsRegular};
+ghost use Rattle.sheet_rows.specs.Places.{IsVerdict};
+ghost use Rattle.answers.specs.Commands.{edit_of, IsRegularEdit, Set as SetRow};
 ghost use Rattle.edit_session.specs.Machine.{verdict};
 
 use answers::Edit;
@@ -14,8 +14,8 @@ use sheet_rows::{EditFault, Row, Sheet};
 ///
 /// The refusal that the sheet gives; the sheet stays as it was.
 pub(crate) fn apply(sheet: &mut Sheet, edit: Edit) -> Result<(), EditFault>
-    requires { IsWellFormed (sheet_of sheet.old) }
-    ensures verdict { IsVerdict result (sheet_of sheet.new) (verdict (sheet_of sheet.old) (edit_of edit)) }
+    requires { IsRegularEdit (edit_of edit) }
+    ensures verdict { IsVerdict result sheet.new (verdict sheet.old (edit_of edit)) }
     ensures err { OnErr result (sheet.new ≡ sheet.old) }
 {
     match edit {
@@ -29,8 +29,8 @@ pub(crate) fn apply(sheet: &mut Sheet, edit: Edit) -> Result<(), EditFault>
 }
 
 fn set(sheet: &mut Sheet, row: Row) -> Result<(), EditFault>
-    requires { IsWellFormed (sheet_of sheet.old) }
-    ensures verdict { IsVerdict result (sheet_of sheet.new) (verdict (sheet_of sheet.old) (SetRow (row_of row))) }
+    requires { IsRegular (row_of row) }
+    ensures verdict { IsVerdict result sheet.new (verdict sheet.old (SetRow (row_of row))) }
     ensures err { OnErr result (sheet.new ≡ sheet.old) }
 {
     sheet.try_set(row)?;

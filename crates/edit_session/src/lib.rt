@@ -12,7 +12,7 @@ mod valuing;
 
 pub use decimal18::OutOfMemory;
 pub use laws::{
-    names_of_rows_have_replies, rebuilt_sheets_reply_alike, replies_are_sound,
-    sheets_stay_calculable,
+    every_reply_is_sound, names_of_quantities_have_values, rebuilt_sheets_reply_alike,
+    sheets_keep_standing,
 };
 pub use session::Session;

@@ -1,11 +1,12 @@
-ghost use Rattle.std.specs.Prelude.{◌≡◌, ◌||◌, IfOk, is_some, nat_lt, length, bytes_eq};
+ghost use Rattle.std.specs.Prelude.{◌≡◌, ◌||◌, IfOk, IfSome, is_some, nat_lt, length, bytes_eq};
 ghost use Rattle.std.specs.Map.{lookup};
-ghost use Rattle.sheet_rows.specs.Places.{sheet_of};
-ghost use Rattle.answers.specs.Commands.{edit_of, Change, Undo, Redo, Mark, Restore};
-ghost use Rattle.edit_session.specs.Machine.{initial, kept_as, reply_at, mark_limit};
-ghost use Rattle.edit_session.specs.Replies.{reply_to};
-ghost use Rattle.edit_session.specs.Calculable.{EditHasExponents};
-ghost use Rattle.edit_session.specs.Calls.{edit_reply, history_reply, mark_reply, ask_reply, Does, Gives};
+ghost use Rattle.answers.specs.Commands.{edit_of, IsRegularEdit, Change, Undo, Redo, Mark, Restore, Ask, AskAt};
+ghost use Rattle.answers.specs.Replies.{IsRegularAnswer};
+ghost use Rattle.edit_session.specs.Machine.{initial, kept_as, mark_limit};
+ghost use Rattle.edit_session.specs.Live.{state_of};
+ghost use Rattle.edit_session.specs.Sound.{IsSoundAnswer};
+ghost use Rattle.edit_session.specs.Standing.{IsStandingState};
+ghost use Rattle.edit_session.specs.Calls.{edit_reply, history_reply, mark_reply, ask_reply, Does};
 
 use crate::answering::ask_sheet;
 use crate::edits::apply;
@@ -40,14 +41,14 @@ pub struct Session {
 }
 
 impl Model for Session {
-    ghost use Rattle.edit_session.specs.Machine.{State};
-    ghost use Rattle.edit_session.specs.States.{state_of, IsSession, coded_state};
+    ghost use Rattle.edit_session.specs.Live.{Live};
+    ghost use Rattle.edit_session.specs.States.{live_of, IsSession, coded_live};
 
-    ghost Value = { State };
+    ghost Value = { Live };
 
-    ghost coded = { coded_state };
+    ghost coded = { coded_live };
 
-    ghost view = { state_of };
+    ghost view = { live_of };
 
     ghost invariant = { IsSession };
 }
@@ -59,12 +60,12 @@ impl Session {
     ///
     /// [`OutOfMemory`] where there is no memory for the past.
     pub fn new(alloc: Global) -> Result<Session, OutOfMemory>
-        ensures { IfOk result (λ session. session ≡ initial) }
+        ensures { IfOk result (λ session. state_of session ≡ initial) }
     {
         let past = HeapCircularBuffer::with_capacity(alloc, PAST_LIMIT)?;
         Ok(Session {
             alloc,
-            present: Sheet::new(alloc),
+            present: Sheet::new(alloc)?,
             past,
             future: Vec::new(alloc),
             marks: IndexMap::new(alloc),
@@ -77,8 +78,8 @@ impl Session {
     ///
     /// The refusal that the sheet gives, or [`EditFault::OutOfMemory`]; the session stays as it was.
     pub fn edit(&mut self, edit: Edit) -> Result<(), EditFault>
-        requires { EditHasExponents (edit_of edit) }
-        ensures { Does self.old (Change (edit_of edit)) self.new (edit_reply result) }
+        requires { IsRegularEdit (edit_of edit) }
+        ensures { Does (state_of self.old) (Change (edit_of edit)) (state_of self.new) (edit_reply result) }
     {
         let before = self.present.copy()?;
         apply(&mut self.present, edit)?;
@@ -91,15 +92,16 @@ impl Session {
     ///
     /// # Errors
     ///
-    /// [`HistoryFault::NothingToUndo`] exactly where the past is empty, but for want of memory; the
-    /// session stays as it was.
+    /// [`HistoryFault::NothingToUndo`] exactly where the past is empty, or out of memory; the session stays
+    /// as it was.
     pub fn undo(&mut self) -> Result<(), HistoryFault>
-        ensures { Does self.old Undo self.new (history_reply result) }
+        ensures { Does (state_of self.old) Undo (state_of self.new) (history_reply result) }
     {
-        self.future.reserve(1)?;
-        let Some(sheet) = self.past.pop_back() else {
+        if self.past.is_empty() {
             return Err(HistoryFault::NothingToUndo);
-        };
+        }
+        self.future.reserve(1)?;
+        let sheet = self.past.pop_back().unwrap();
         let after = std::mem::replace(&mut self.present, sheet);
         // There is room for it.
         self.future.push(after).unwrap();
@@ -110,9 +112,10 @@ impl Session {
     ///
     /// # Errors
     ///
-    /// [`HistoryFault::NothingToRedo`] exactly where the future is empty; the session stays as it was.
+    /// [`HistoryFault::NothingToRedo`] exactly where the future is empty; the session stays as it was. It
+    /// takes no memory.
     pub fn redo(&mut self) -> Result<(), HistoryFault>
-        ensures { Does self.old Redo self.new (history_reply result) }
+        ensures { Does (state_of self.old) Redo (state_of self.new) (history_reply result) }
     {
         let Some(sheet) = self.future.pop() else {
             return Err(HistoryFault::NothingToRedo);
@@ -126,10 +129,10 @@ impl Session {
     ///
     /// # Errors
     ///
-    /// [`MarkFault::MarksFull`] exactly where the name is new and there are 16 marks, but for want of
-    /// memory; the session stays as it was.
+    /// [`MarkFault::MarksFull`] exactly where the name is new and there are 16 marks, or out of memory; the
+    /// session stays as it was.
     pub fn mark(&mut self, name: Name) -> Result<(), MarkFault>
-        ensures { Does self.old (Mark name) self.new (mark_reply result) }
+        ensures { Does (state_of self.old) (Mark name) (state_of self.new) (mark_reply result) }
     {
         if !may_mark(&self.marks, &name) {
             return Err(MarkFault::MarksFull);
@@ -145,10 +148,10 @@ impl Session {
     ///
     /// # Errors
     ///
-    /// [`MarkFault::NoMark`] exactly where no mark has the name, but for want of memory; the session
-    /// stays as it was.
+    /// [`MarkFault::NoMark`] exactly where no mark has the name, or out of memory; the session stays as it
+    /// was.
     pub fn restore(&mut self, name: &Name) -> Result<(), MarkFault>
-        ensures { Does self.old (Restore name.now) self.new (mark_reply result) }
+        ensures { Does (state_of self.old) (Restore name.now) (state_of self.new) (mark_reply result) }
     {
         let Some(kept) = self.marks.get(name) else {
             return Err(MarkFault::NoMark(*name));
@@ -160,30 +163,38 @@ impl Session {
         Ok(())
     }
 
-    /// Asks the present sheet.
+    /// Asks the present sheet. What it answers holds of the exact law of that sheet.
     ///
     /// # Errors
     ///
-    /// [`AskFault::NoSuchResult`] exactly where the query names no quantity, but for want of memory.
-    pub fn ask<L: Ledger>(&self, query: &Query, steps: &mut Steps<L>) -> Result<Answer, AskFault>
-        ensures { Gives (ask_reply result) (reply_to self.now.present query.now) }
+    /// [`AskFault::NoSuchResult`] exactly where the query names no quantity of the sheet.
+    pub fn ask<L: Ledger>(
+        &mut self,
+        query: &Query,
+        steps: &mut Steps<L>,
+    ) -> Result<Answer, AskFault>
+        ensures reply { Does (state_of self.old) (Ask query.now) (state_of self.new) (ask_reply result) }
+        ensures sound { IfOk result (λ answer. IsSoundAnswer (state_of self.old).present answer) }
+        ensures regular { IfOk result IsRegularAnswer }
     {
         ask_sheet(self.alloc, &self.present, query, steps)
     }
 
-    /// Asks the sheet that is kept under a name.
+    /// Asks the sheet that is kept under a name. What it answers holds of the exact law of that sheet.
     ///
     /// # Errors
     ///
     /// [`AskFault::NoMark`] exactly where no mark has the name, and then
-    /// [`AskFault::NoSuchResult`] exactly where the query names no quantity, but for want of memory.
+    /// [`AskFault::NoSuchResult`] exactly where the query names no quantity of the sheet.
     pub fn ask_at<L: Ledger>(
-        &self,
+        &mut self,
         mark: &Name,
         query: &Query,
         steps: &mut Steps<L>,
     ) -> Result<Answer, AskFault>
-        ensures { Gives (ask_reply result) (reply_at mark.now (kept_as self.now.marks mark.now) query.now) }
+        ensures reply { Does (state_of self.old) (AskAt mark.now query.now) (state_of self.new) (ask_reply result) }
+        ensures sound { IfOk result (λ answer. IfSome (kept_as (state_of self.old).marks mark.now) (λ sheet. IsSoundAnswer sheet answer)) }
+        ensures regular { IfOk result IsRegularAnswer }
     {
         let Some(kept) = self.marks.get(mark) else {
             return Err(AskFault::NoMark(*mark));
@@ -191,9 +202,11 @@ impl Session {
         ask_sheet(self.alloc, kept, query, steps)
     }
 
-    /// The present sheet.
+    /// The present sheet. It stands, and so do the sheets of the past, of the future and of the marks: each
+    /// is well formed and has regular rows, so that the laws on sheets apply to it.
     pub fn sheet(&self) -> &Sheet
-        ensures { sheet_of result.now ≡ self.now.present }
+        ensures present { result.now ≡ (state_of self.now).present }
+        ensures standing { IsStandingState (state_of self.now) }
     {
         &self.present
     }

@@ -1,19 +1,17 @@
 ghost use Rattle.std.specs.Prelude.{◌≡◌, IfSome};
 ghost use Rattle.sheet_rows.specs.Rows.{row_of};
-ghost use Rattle.edit_session.specs.Calculable.{RowHasExponents};
+ghost use Rattle.sheet_rows.specs.Regular.{IsRegular};
 
 use crate::Session;
-use answers::{Answer, AskFault, Edit, Query};
-use decimal18::Dec;
+use answers::{Answer, AskFault, Edit, HistoryFault, MarkFault, Query};
 use fixed_interval::Steps;
 use formula_ast::Name;
-use sheet_rows::Row;
+use sheet_rows::{EditFault, Row, RowList, read_row};
 use std::alloc::Global;
 use std::marker::Brand;
 use std::process::Abort;
 use std::sync::ledger::{Blank, Ledger};
 use std::test::Fail;
-use type_b::{Dof, Shape};
 
 // A command; rows and marks are named by letters.
 #[derive(Clone, Copy, Debug)]
@@ -32,150 +30,201 @@ enum Step {
     Place(u8),
 }
 
+// What comes of a command, with the names of refusals by their letters.
+#[derive(Clone, Copy, Debug, PartialEq, Eq)]
+enum Outcome {
+    Done,
+    // The lower end of a value, or a place.
+    Number(i64),
+    NothingToUndo,
+    NothingToRedo,
+    MarksFull,
+    NoMark(u8),
+    NoSuchResult(u8),
+    // Anything else, which no row of the tests wants.
+    Other,
+}
+
 // Sixteen marks are kept.
-const MARKS: [(Step, Option<i64>); 19] = [
-    (Step::Mark(b'A'), Some(0)),
-    (Step::Mark(b'B'), Some(0)),
-    (Step::Mark(b'C'), Some(0)),
-    (Step::Mark(b'D'), Some(0)),
-    (Step::Mark(b'E'), Some(0)),
-    (Step::Mark(b'F'), Some(0)),
-    (Step::Mark(b'G'), Some(0)),
-    (Step::Mark(b'H'), Some(0)),
-    (Step::Mark(b'I'), Some(0)),
-    (Step::Mark(b'J'), Some(0)),
-    (Step::Mark(b'K'), Some(0)),
-    (Step::Mark(b'L'), Some(0)),
-    (Step::Mark(b'M'), Some(0)),
-    (Step::Mark(b'N'), Some(0)),
-    (Step::Mark(b'O'), Some(0)),
-    (Step::Mark(b'P'), Some(0)),
-    (Step::Mark(b'Q'), None),
-    (Step::Mark(b'C'), Some(0)),
-    (Step::Restore(b'Q'), None),
+const MARKS: [(Step, Outcome); 19] = [
+    (Step::Mark(b'A'), Outcome::Done),
+    (Step::Mark(b'B'), Outcome::Done),
+    (Step::Mark(b'C'), Outcome::Done),
+    (Step::Mark(b'D'), Outcome::Done),
+    (Step::Mark(b'E'), Outcome::Done),
+    (Step::Mark(b'F'), Outcome::Done),
+    (Step::Mark(b'G'), Outcome::Done),
+    (Step::Mark(b'H'), Outcome::Done),
+    (Step::Mark(b'I'), Outcome::Done),
+    (Step::Mark(b'J'), Outcome::Done),
+    (Step::Mark(b'K'), Outcome::Done),
+    (Step::Mark(b'L'), Outcome::Done),
+    (Step::Mark(b'M'), Outcome::Done),
+    (Step::Mark(b'N'), Outcome::Done),
+    (Step::Mark(b'O'), Outcome::Done),
+    (Step::Mark(b'P'), Outcome::Done),
+    (Step::Mark(b'Q'), Outcome::MarksFull),
+    (Step::Mark(b'C'), Outcome::Done),
+    (Step::Restore(b'Q'), Outcome::NoMark(b'Q')),
 ];
 
 // A mark sees no later edit, and the undo of a removal puts the row back at its place.
-const EDITS: [(Step, Option<i64>); 16] = [
-    (Step::Add(b'X', 5), Some(0)),
-    (Step::Add(b'Z', 7), Some(0)),
-    (Step::Mark(b'M'), Some(0)),
-    (Step::Set(b'X', 6), Some(0)),
-    (Step::ValueAt(b'M', b'X'), Some(5)),
-    (Step::Remove(b'X'), Some(0)),
-    (Step::Place(b'Z'), Some(0)),
-    (Step::Undo, Some(0)),
-    (Step::Place(b'Z'), Some(1)),
-    (Step::Value(b'X'), Some(6)),
-    (Step::Restore(b'M'), Some(0)),
-    (Step::Redo, None),
-    (Step::Value(b'X'), Some(5)),
-    (Step::Undo, Some(0)),
-    (Step::Value(b'X'), Some(6)),
-    (Step::Value(b'Y'), None),
+const EDITS: [(Step, Outcome); 17] = [
+    (Step::Add(b'X', 5), Outcome::Done),
+    (Step::Add(b'Z', 7), Outcome::Done),
+    (Step::Mark(b'M'), Outcome::Done),
+    (Step::Set(b'X', 6), Outcome::Done),
+    (Step::ValueAt(b'M', b'X'), Outcome::Number(5)),
+    (Step::ValueAt(b'N', b'X'), Outcome::NoMark(b'N')),
+    (Step::Remove(b'X'), Outcome::Done),
+    (Step::Place(b'Z'), Outcome::Number(0)),
+    (Step::Undo, Outcome::Done),
+    (Step::Place(b'Z'), Outcome::Number(1)),
+    (Step::Value(b'X'), Outcome::Number(6)),
+    (Step::Restore(b'M'), Outcome::Done),
+    (Step::Redo, Outcome::NothingToRedo),
+    (Step::Value(b'X'), Outcome::Number(5)),
+    (Step::Undo, Outcome::Done),
+    (Step::Value(b'X'), Outcome::Number(6)),
+    (Step::Value(b'Y'), Outcome::NoSuchResult(b'Y')),
 ];
 
 // What follows 256 settings and as many undos.
-const LAST_UNDO: [(Step, Option<i64>); 4] = [
-    (Step::Undo, None),
-    (Step::Value(b'X'), Some(0)),
-    (Step::Redo, Some(0)),
-    (Step::Value(b'X'), Some(1)),
+const LAST_UNDO: [(Step, Outcome); 4] = [
+    (Step::Undo, Outcome::NothingToUndo),
+    (Step::Value(b'X'), Outcome::Number(0)),
+    (Step::Redo, Outcome::Done),
+    (Step::Value(b'X'), Outcome::Number(1)),
 ];
 
 fn letter(byte: u8) -> Option<Name> {
     Name::plain(&[byte])
 }
 
-// An exact input.
-fn given(byte: u8, value: i64) -> Option<Row>
-    ensures { IfSome result (λ row. RowHasExponents (row_of row)) }
+// The row of an exact input.
+fn given(alloc: Global, byte: u8, value: i64) -> Option<Row>
+    ensures { IfSome result (λ row. IsRegular (row_of row)) }
 {
-    Some(Row::Given {
-        name: letter(byte)?,
-        estimate: Dec::new(value, 0)?,
-        shape: Shape::Exact,
-        dof: Dof::Inf,
-    })
-}
-
-fn done(is_ok: bool) -> Option<i64> {
-    if is_ok { Some(0) } else { None }
-}
-
-fn add(session: &mut Session, byte: u8, value: i64) -> Option<i64> {
-    let row = given(byte, value)?;
-    done(session.edit(Edit::Add(row)).is_ok())
-}
-
-fn set(session: &mut Session, byte: u8, value: i64) -> Option<i64> {
-    let row = given(byte, value)?;
-    done(session.edit(Edit::Set(row)).is_ok())
-}
-
-fn lower_end(answer: Result<Answer, AskFault>) -> Option<i64> {
-    let Ok(answer) = answer else {
-        return None;
-    };
-    match answer {
-        Answer::Value(_, span) => Some(span.lo().coefficient()),
-        _ => None,
+    let name = char::from(byte);
+    let line = format!(in alloc; "given {name} {value} exact").ok()?;
+    match read_row(alloc, line.as_bytes(), 0) {
+        Ok(row) => Some(row),
+        Err(_) => None,
     }
 }
 
-fn place_in(answer: Result<Answer, AskFault>, name: &Name) -> Option<i64> {
-    let Ok(answer) = answer else {
-        return None;
-    };
-    let Answer::Dump(rows) = &answer else {
-        return None;
-    };
-    let place = rows.as_slice().iter().position(|row| row.name() == name)?;
-    i64::try_from(place).ok()
+fn of_letter(name: &Name) -> u8 {
+    match name.as_bytes() {
+        [byte] => *byte,
+        _ => b'?',
+    }
 }
 
-fn outcome<L: Ledger>(session: &mut Session, step: Step, steps: &mut Steps<L>) -> Option<i64> {
-    match step {
-        Step::Add(name, value) => add(session, name, value),
-        Step::Set(name, value) => set(session, name, value),
-        Step::Remove(name) => done(session.edit(Edit::Remove(letter(name)?)).is_ok()),
-        Step::Undo => done(session.undo().is_ok()),
-        Step::Redo => done(session.redo().is_ok()),
-        Step::Mark(name) => done(session.mark(letter(name)?).is_ok()),
-        Step::Restore(name) => done(session.restore(&letter(name)?).is_ok()),
-        Step::Value(name) => lower_end(session.ask(&Query::Value(letter(name)?), steps)),
-        Step::ValueAt(mark, name) => {
-            let query = Query::Value(letter(name)?);
-            lower_end(session.ask_at(&letter(mark)?, &query, steps))
+fn of_edit(done: Result<(), EditFault>) -> Outcome {
+    match done {
+        Ok(()) => Outcome::Done,
+        Err(_) => Outcome::Other,
+    }
+}
+
+fn of_step(done: Result<(), HistoryFault>) -> Outcome {
+    match done {
+        Ok(()) => Outcome::Done,
+        Err(HistoryFault::NothingToUndo) => Outcome::NothingToUndo,
+        Err(HistoryFault::NothingToRedo) => Outcome::NothingToRedo,
+        Err(HistoryFault::OutOfMemory) => Outcome::Other,
+    }
+}
+
+fn of_mark(done: Result<(), MarkFault>) -> Outcome {
+    match &done {
+        Ok(()) => Outcome::Done,
+        Err(MarkFault::MarksFull) => Outcome::MarksFull,
+        Err(MarkFault::NoMark(name)) => Outcome::NoMark(of_letter(name)),
+        Err(MarkFault::OutOfMemory) => Outcome::Other,
+    }
+}
+
+// A value by its lower end, and the rows by the place of `name` among them.
+fn of_answer(answer: Result<Answer, AskFault>, name: &Name) -> Outcome {
+    match &answer {
+        Ok(Answer::Value(_, span)) => Outcome::Number(span.lo().coefficient()),
+        Ok(Answer::Dump(rows)) => place_in(rows, name),
+        Ok(Answer::ValueFault(..)) | Err(AskFault::OutOfMemory) => Outcome::Other,
+        Err(AskFault::NoMark(name)) => Outcome::NoMark(of_letter(name)),
+        Err(AskFault::NoSuchResult(name)) => Outcome::NoSuchResult(of_letter(name)),
+    }
+}
+
+fn place_in(rows: &RowList, name: &Name) -> Outcome {
+    let place = rows.as_slice().iter().position(|row| row.name() == name);
+    match place.map(i64::try_from) {
+        Some(Ok(place)) => Outcome::Number(place),
+        _ => Outcome::Other,
+    }
+}
+
+fn outcome_of<L: Ledger>(
+    alloc: Global,
+    session: &mut Session,
+    step: Step,
+    steps: &mut Steps<L>,
+) -> Option<Outcome> {
+    let outcome = match step {
+        Step::Add(name, value) => of_edit(session.edit(Edit::Add(given(alloc, name, value)?))),
+        Step::Set(name, value) => of_edit(session.edit(Edit::Set(given(alloc, name, value)?))),
+        Step::Remove(name) => of_edit(session.edit(Edit::Remove(letter(name)?))),
+        Step::Undo => of_step(session.undo()),
+        Step::Redo => of_step(session.redo()),
+        Step::Mark(name) => of_mark(session.mark(letter(name)?)),
+        Step::Restore(name) => of_mark(session.restore(&letter(name)?)),
+        Step::Value(name) => {
+            let name = letter(name)?;
+            of_answer(session.ask(&Query::Value(name), steps), &name)
         }
-        Step::Place(name) => place_in(session.ask(&Query::Dump, steps), &letter(name)?),
-    }
+        Step::ValueAt(mark, name) => {
+            let name = letter(name)?;
+            of_answer(
+                session.ask_at(&letter(mark)?, &Query::Value(name), steps),
+                &name,
+            )
+        }
+        Step::Place(name) => of_answer(session.ask(&Query::Dump, steps), &letter(name)?),
+    };
+    Some(outcome)
 }
 
 fn follow<L: Ledger>(
     rt: &impl Abort,
+    alloc: Global,
     session: &mut Session,
-    rows: &[(Step, Option<i64>)],
+    rows: &[(Step, Outcome)],
     steps: &mut Steps<L>,
 ) {
     for (step, wanted) in rows {
-        assert_eq!(rt; outcome(session, *step, steps), *wanted);
+        assert_eq!(rt; outcome_of(alloc, session, *step, steps), Some(*wanted));
     }
 }
 
 // Sets X to each number from 1 to 256, and goes as many steps back.
-fn set_and_undo<L: Ledger>(session: &mut Session, steps: &mut Steps<L>) -> bool {
+fn set_and_undo<L: Ledger>(
+    rt: &impl Abort,
+    alloc: Global,
+    session: &mut Session,
+    steps: &mut Steps<L>,
+) {
     for value in 1..257 {
-        if outcome(session, Step::Set(b'X', value), steps).is_none() {
-            return false;
-        }
+        assert_eq!(rt;
+            outcome_of(alloc, session, Step::Set(b'X', value), steps),
+            Some(Outcome::Done)
+        );
     }
     for _ in 0..256 {
-        if outcome(session, Step::Undo, steps).is_none() {
-            return false;
-        }
+        assert_eq!(rt;
+            outcome_of(alloc, session, Step::Undo, steps),
+            Some(Outcome::Done)
+        );
     }
-    true
 }
 
 fn run_all<L: Ledger>(rt: &impl Abort, alloc: Global, blank: Blank) -> Result<(), Fail>
@@ -185,13 +234,16 @@ fn run_all<L: Ledger>(rt: &impl Abort, alloc: Global, blank: Blank) -> Result<()
 {
     let mut steps: Steps<L> = Steps::new(blank);
     let mut marked = Session::new(alloc)?;
-    follow(rt, &mut marked, &MARKS, &mut steps);
+    follow(rt, alloc, &mut marked, &MARKS, &mut steps);
     let mut edited = Session::new(alloc)?;
-    follow(rt, &mut edited, &EDITS, &mut steps);
+    follow(rt, alloc, &mut edited, &EDITS, &mut steps);
     let mut session = Session::new(alloc)?;
-    assert_eq!(rt; add(&mut session, b'X', 0), Some(0));
-    assert!(rt; set_and_undo(&mut session, &mut steps));
-    follow(rt, &mut session, &LAST_UNDO, &mut steps);
+    assert_eq!(rt;
+        outcome_of(alloc, &mut session, Step::Add(b'X', 0), &mut steps),
+        Some(Outcome::Done)
+    );
+    set_and_undo(rt, alloc, &mut session, &mut steps);
+    follow(rt, alloc, &mut session, &LAST_UNDO, &mut steps);
     Ok(())
 }
 

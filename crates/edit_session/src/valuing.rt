@@ -1,19 +1,19 @@
-ghost use Rattle.std.specs.Prelude.{◌≡◌, List, [], ◌∷◌, ◌++◌, false, IfOk, OnOk};
-ghost use Rattle.sheet_rows.specs.Rows.{row_of, name_of};
-ghost use Rattle.sheet_rows.specs.Places.{sheet_of};
-ghost use Rattle.value_cache.specs.Quantities.{Quantity, is_there};
-ghost use Rattle.value_cache.specs.Cells.{Keeps};
-ghost use Rattle.edit_session.specs.Replies.{quantity_of, quantities};
-ghost use Rattle.edit_session.specs.Calculable.{IsCalculable, RowHasExponents};
-ghost use Rattle.edit_session.specs.Walks.{KnowsUses};
+ghost use Rattle.std.specs.Prelude.{List, ℕ, ◌++◌, bytes_eq, IfOk, OnOk};
+ghost use Rattle.sheet_rows.specs.Rows.{row_of};
+ghost use Rattle.sheet_rows.specs.Regular.{IsRegular};
+ghost use Rattle.value_cache.specs.Quantities.{Quantity};
+ghost use Rattle.value_cache.specs.Evaluable.{Keeps};
+ghost use Rattle.value_cache.specs.Cells.{kept};
+ghost use Rattle.edit_session.specs.Replies.{row_quantities, quantities};
+ghost use Rattle.edit_session.specs.Walks.{KnowsUses, AreFresh};
 
 use decimal18::OutOfMemory;
 use fixed_interval::Steps;
 use formula_ast::names;
 use sheet_rows::{Row, Sheet};
-use value_cache::Values;
 use std::alloc::Global;
 use std::sync::ledger::Ledger;
+use value_cache::Values;
 
 /// The evaluations of the quantities of a sheet.
 ///
@@ -25,8 +25,7 @@ pub(crate) fn values_of<L: Ledger>(
     sheet: &Sheet,
     steps: &mut Steps<L>,
 ) -> Result<Values, OutOfMemory>
-    requires { IsCalculable (sheet_of sheet.now) }
-    ensures { IfOk result (λ values. Keeps (quantities (sheet_of sheet.now)) values) }
+    ensures { IfOk result (λ values. Keeps bytes_eq (quantities sheet.now) (kept values)) }
 {
     let mut values = Values::new(alloc);
     for row in sheet.rows() {
@@ -35,17 +34,17 @@ pub(crate) fn values_of<L: Ledger>(
     Ok(values)
 }
 
-// Adds the quantity of a row whose names are those of quantities that were added before.
+// Adds the quantities of a row whose names are those of quantities that were added before.
 fn add_row<L: Ledger>(
     alloc: Global,
     values: &mut Values,
     row: &Row,
     steps: &mut Steps<L>,
 ) -> Result<(), OutOfMemory>
-    requires exponents { RowHasExponents (row_of row.now) }
+    requires regular { IsRegular (row_of row.now) }
     requires known { KnowsUses values.old (row_of row.now) }
-    ensures { (qs : List Quantity) → Keeps qs values.old → is_there qs (name_of (row_of row.now)) ≡ false
-        → OnOk result (Keeps (qs ++ quantity_of (row_of row.now) ∷ []) values.new) }
+    ensures { (qs : List (Quantity (List ℕ))) → Keeps bytes_eq qs (kept values.old) → AreFresh qs (row_quantities (row_of row.now))
+        → OnOk result (Keeps bytes_eq (qs ++ row_quantities (row_of row.now)) (kept values.new)) }
 {
     match row {
         Row::Given { name, estimate, .. } => values.add_input(*name, *estimate, steps),

@@ -1,15 +1,12 @@
 use Rattle.std.proofs.Common.{◌+◌, ◌∷◌, ◌++◌, [], map, drop, sym, ◌∙◌, ap}
 use Rattle.std.proofs.lemmas.List.{append_assoc, append-nil}
-use Rattle.std.proofs.lemmas.Simd.{map-map}
 use Rattle.sheet_rows.specs.Rows.{row_of}
-use Rattle.sheet_rows.specs.Places.{sheet_of}
 use Rattle.edit_session.proofs.Walking.{left_next, none_left}
 use Rattle.edit_session.proofs.answering.rows_of.Goals as goal
 
 pub loop-row-init : goal.loop-row-init
 loop-row-init c =
-    ap (λ rows. rows ++ map (λ row. row_of row.value) c.rows-row-items.result.now) c.new-rows.ensures
-    ∙ sym (map-map row_of (λ row. row.value) c.rows-row-items.result.now) ∙ ap sheet_of c.rows-row-items.ensures
+    ap (λ rows. rows ++ map (λ row. row_of row.value) c.rows-row-items.result.now) c.in_ok-rows.ensures ∙ c.rows-row-items.ensures.rows
 
 pub loop-row-preserved : goal.loop-row-preserved
 loop-row-preserved c =
@@ -20,8 +17,8 @@ loop-row-preserved c =
     (sym (left_next (λ row. row_of row.value) c.rows-row-items.result.now c.loop-row.row-index c.row-item.result c.row-item.is c.loop-row-test.true))
     ∙ c.loop-row.invariant
 
-pub returns : goal.returns
-returns c =
+pub returns-clause-rows : goal.returns-clause-rows
+returns-clause-rows c =
     sym (append-nil c.loop-row.rows)
     ∙ ap (λ left. c.loop-row.rows ++ left)
     (sym (none_left (λ row. row_of row.value) c.rows-row-items.result.now c.loop-row.row-index c.loop-row-test.false))

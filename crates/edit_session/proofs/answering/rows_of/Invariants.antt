@@ -1,7 +1,6 @@
 use Rattle.std.proofs.Common.{◌≡◌, ◌++◌, map, drop}
 use Rattle.sheet_rows.specs.Rows.{row_of}
-use Rattle.sheet_rows.specs.Places.{sheet_of}
 use Rattle.edit_session.proofs.answering.rows_of.Given as goal
 
 abbrev pub invariant-loop-row : goal.invariant-loop-row
-invariant-loop-row l = l.rows ++ map (λ row. row_of row.value) (drop l.row-index l.row-items) ≡ sheet_of l.sheet
+invariant-loop-row l = l.rows ++ map (λ row. row_of row.value) (drop l.row-index l.row-items) ≡ l.sheet.rows

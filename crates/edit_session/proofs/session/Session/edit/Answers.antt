@@ -2,14 +2,12 @@ use Rattle.std.proofs.Common.{◌≡◌, ◌++◌, ◌∷◌, [], ◌∙◌, ap,
 use Rattle.circular_buffer.specs.Buffer.{buffer, keep_last}
 use Rattle.answers.specs.declared.reply.Reply.TheVariants.{Fine}
 use Rattle.edit_session.specs.Machine.{State, step}
-use Rattle.edit_session.specs.States.{state_of, state_from}
-use Rattle.edit_session.proofs.Soundness.{stepped-sound}
+use Rattle.edit_session.specs.Live.{state_of}
+use Rattle.edit_session.specs.States.{state_in, state_from}
+use Rattle.edit_session.proofs.Standing.{stepped-standing}
 use Rattle.answers.specs.Commands.{Change, edit_of}
 use Rattle.edit_session.proofs.Steps.{Pushed, edit_step}
 use Rattle.edit_session.proofs.session.Session.edit.Goals as goal
-
-pub apply-requires : goal.apply-requires
-apply-requires c = c.self.invariant.sound.present.well_formed
 
 pushed : (c : goal.After-clear) → Pushed c.push_back.new.self c.self.inside.past.items c.self.inside.present
 pushed c =
@@ -19,7 +17,7 @@ pushed c =
 after : goal.After-clear → State
 after c = state_from c.apply.new.sheet c.push_back.new.self.items c.clear.new.self.items c.self.inside.marks.entries
 
-stepped : (c : goal.After-clear) → step (state_of c.self.inside) (Change (edit_of c.args.edit)) ≡ (after c, Fine)
+stepped : (c : goal.After-clear) → step (state_in c.self.inside) (Change (edit_of c.args.edit)) ≡ (after c, Fine)
 unfolding after
 stepped c =
     edit_step c.self.inside.present c.apply.new.sheet c.self.inside.past.items c.self.inside.future.items c.clear.new.self.items
@@ -29,9 +27,9 @@ pub invariant_of-self-2 : goal.invariant_of-self-2
 unfolding after
 invariant_of-self-2 c = record {
   room = ap (λ ring. ring.capacity) (pushed c);
-  sound = stepped-sound (state_of c.self.inside) (after c) (Change (edit_of c.args.edit)) Fine c.self.invariant.sound c.requires (stepped c);
+  standing = stepped-standing (state_in c.self.inside) (after c) (Change (edit_of c.args.edit)) Fine c.self.invariant.standing c.requires (stepped c);
 }
 
 pub returns : goal.returns
 unfolding after
-returns c = subst (λ s. step s (Change (edit_of c.args.edit)) ≡ (after c, Fine)) c.self.view_is (stepped c)
+returns c = subst (λ l. step (state_of l) (Change (edit_of c.args.edit)) ≡ (after c, Fine)) c.self.view_is (stepped c)

@@ -1,41 +1,50 @@
 use Rattle.std.proofs.Common.{◌≡◌, sym, ◌∙◌, ap, subst}
 use Rattle.answers.specs.declared.reply.Reply.TheVariants.{Fine}
 use Rattle.edit_session.specs.Machine.{State, step}
-use Rattle.edit_session.specs.States.{state_of, state_from}
-use Rattle.edit_session.proofs.Soundness.{stepped-sound}
+use Rattle.edit_session.specs.Live.{state_of}
+use Rattle.edit_session.specs.States.{state_in, state_from}
+use Rattle.edit_session.proofs.Standing.{stepped-standing}
 use Rattle.answers.specs.Commands.{Mark}
 use Rattle.answers.specs.declared.fault.MarkFault.TheVariants.{MarksFull}
 use Rattle.answers.specs.declared.reply.Reply.TheVariants.{Mark as MarkRefused}
 use Rattle.edit_session.specs.Machine.{marked, may_mark}
 use Rattle.indexmap.specs.IndexMap.{insert_entry}
 use Rattle.std.specs.Prelude.{bytes_eq}
-use Rattle.edit_session.proofs.Lists.{may-mark}
 use Rattle.edit_session.proofs.Steps.{mark_step}
+use Rattle.edit_session.proofs.Calls.{mark_may_want}
+use Rattle.std.specs.Prelude.{true}
 use Rattle.edit_session.proofs.session.Session.mark.Goals as goal
 
 pub returns-then-not-may_mark : goal.returns-then-not-may_mark
 returns-then-not-may_mark c =
-    subst (λ s. marked s c.args.name (may_mark s.marks c.args.name) ≡ (s, MarkRefused MarksFull)) c.self.view_is
-    (ap (marked (state_of c.self.inside) c.args.name)
-    (may-mark c.self.inside.marks.entries c.args.name ∙ sym c.may_mark.ensures ∙ c.if-not-may_mark.true))
+    subst (λ l. step (state_of l) (Mark c.args.name) ≡ (state_of l, MarkRefused MarksFull)) c.self.view_is
+    (ap (marked (state_in c.self.inside) c.args.name) (sym c.may_mark.ensures ∙ c.if-not-may_mark.true))
 
 after : goal.Joined-insert-2 → State
 after c = state_from c.self.inside.present c.self.inside.past.items c.self.inside.future.items c.insert.new.self.entries
 
-stepped : (c : goal.Joined-insert-2) → step (state_of c.self.inside) (Mark c.args.name) ≡ (after c, Fine)
+stepped : (c : goal.Joined-insert-2) → step (state_in c.self.inside) (Mark c.args.name) ≡ (after c, Fine)
 unfolding after
 stepped c =
     mark_step c.self.inside.present c.self.inside.past.items c.self.inside.future.items c.self.inside.marks.entries c.insert.new.self.entries
-    c.args.name (may-mark c.self.inside.marks.entries c.args.name ∙ sym c.may_mark.ensures ∙ c.if-not-may_mark.false)
+    c.args.name (sym c.may_mark.ensures ∙ c.if-not-may_mark.false)
     (c.in-Ok.ensures.entries ∙ ap (insert_entry bytes_eq c.self.inside.marks.entries c.args.name) c.in_ok-sheet.ensures)
 
 pub invariant_of-self : goal.invariant_of-self
 unfolding after
 invariant_of-self c = record {
   room = c.self.invariant.room;
-  sound = stepped-sound (state_of c.self.inside) (after c) (Mark c.args.name) Fine c.self.invariant.sound tt (stepped c);
+  standing = stepped-standing (state_in c.self.inside) (after c) (Mark c.args.name) Fine c.self.invariant.standing tt (stepped c);
 }
 
 pub returns-in-Ok : goal.returns-in-Ok
 unfolding after
-returns-in-Ok c = subst (λ s. step s (Mark c.args.name) ≡ (after c, Fine)) c.self.view_is (stepped c)
+returns-in-Ok c = subst (λ l. step (state_of l) (Mark c.args.name) ≡ (after c, Fine)) c.self.view_is (stepped c)
+
+pub returns : goal.returns
+returns c = (
+  subst (λ l. state_from c.self.inside.present c.self.inside.past.items c.self.inside.future.items c.insert.new.self.entries ≡ state_of l) c.self.view_is
+      (ap (state_from c.self.inside.present c.self.inside.past.items c.self.inside.future.items) c.in-Err.ensures.err),
+  mark_may_want (state_of c.args.self.now) c.args.name
+      (subst (λ l. may_mark (state_of l).marks c.args.name ≡ true) c.self.view_is (sym c.may_mark.ensures ∙ c.if-not-may_mark.false)),
+)

@@ -4,9 +4,10 @@ use Rattle.circular_buffer.specs.Buffer.{buffer, keep_last}
 use Rattle.answers.specs.Commands.{Redo}
 use Rattle.answers.specs.declared.reply.Reply.TheVariants.{Fine}
 use Rattle.edit_session.specs.Machine.{State, step}
-use Rattle.edit_session.specs.States.{state_of, state_from}
+use Rattle.edit_session.specs.Live.{state_of}
+use Rattle.edit_session.specs.States.{state_in, state_from}
 use Rattle.edit_session.proofs.Steps.{Pushed, redo_step}
-use Rattle.edit_session.proofs.Soundness.{stepped-sound}
+use Rattle.edit_session.proofs.Standing.{stepped-standing}
 use Rattle.edit_session.proofs.session.Session.redo.Goals as goal
 
 pushed : (c : goal.Joined-push_back) → Pushed c.push_back.new.self c.self.inside.past.items c.self.inside.present
@@ -17,7 +18,7 @@ pushed c =
 after : goal.Joined-push_back → State
 after c = state_from c.replace-before.new.dest c.push_back.new.self.items c.pop.new.self.items c.self.inside.marks.entries
 
-stepped : (c : goal.Joined-push_back) → step (state_of c.self.inside) Redo ≡ (after c, Fine)
+stepped : (c : goal.Joined-push_back) → step (state_in c.self.inside) Redo ≡ (after c, Fine)
 unfolding after
 stepped c =
     redo_step c.self.inside.present c.in-Some.sheet c.self.inside.past.items c.self.inside.future.items c.pop.new.self.items
@@ -30,9 +31,9 @@ pub invariant_of-self-2 : goal.invariant_of-self-2
 unfolding after
 invariant_of-self-2 c = record {
   room = ap (λ ring. ring.capacity) (pushed c);
-  sound = stepped-sound (state_of c.self.inside) (after c) Redo Fine c.self.invariant.sound tt (stepped c);
+  standing = stepped-standing (state_in c.self.inside) (after c) Redo Fine c.self.invariant.standing tt (stepped c);
 }
 
 pub returns : goal.returns
 unfolding after
-returns c = subst (λ s. step s Redo ≡ (after c, Fine)) c.self.view_is (stepped c)
+returns c = subst (λ l. step (state_of l) Redo ≡ (after c, Fine)) c.self.view_is (stepped c)
