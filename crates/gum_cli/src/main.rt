@@ -3,6 +3,7 @@
 #![tactic(auto)]
 
 mod exit;
+mod laws;
 mod respond;
 mod rows;
 mod run;

@@ -3,7 +3,9 @@ ghost use Rattle.script_lines.specs.declared.item.Item.{Item};
 ghost use Rattle.script_lines.specs.Items.{items_of, whole_items_of};
 ghost use Rattle.script_lines.specs.Commands.{command_read};
 ghost use Rattle.script_lines.specs.Texts.{is_line_memory, is_memory_fault};
-ghost use Rattle.gum_cli.specs.Script.{state_behind, replies_of, replies_to, text_of_replies, out};
+ghost use Rattle.answers.specs.Replies.{IsRegularReply};
+ghost use Rattle.edit_session.specs.Live.{state_of};
+ghost use Rattle.gum_cli.specs.Script.{state_after_line, replies_of, replies_to, text_of_replies, out};
 
 use crate::serve::serve;
 use answers::{LineFault, Reply};
@@ -34,10 +36,11 @@ pub fn respond<L: Ledger>(
     Ok(replies)
 }
 
-// A line that is no command is refused, if it was not for want of memory.
+// A line that is no command is refused, or out of memory exactly where its reading found none.
 fn refuse(fault: LineFault) -> Result<Reply, OutOfMemory>
     ensures same { IfOk result (λ reply. reply ≡ Reply.Line fault) }
     ensures said { IfOk result (λ reply. IsFalse (is_memory_fault reply)) }
+    ensures regular { IfOk result IsRegularReply }
     ensures memory { OnErr result (IsTrue (is_line_memory fault)) }
 {
     match fault {
@@ -53,11 +56,12 @@ fn reply_to<L: Ledger>(
     session: &mut Session,
     steps: &mut Steps<L>,
 ) -> Result<Option<Reply>, OutOfMemory>
-    ensures state { OnOk result (session.new ≡ state_behind session.old (command_read item.now)) }
+    ensures state { OnOk result (state_of session.new ≡ state_after_line (state_of session.old) (command_read item.now)) }
     ensures reply { IfOk result (λ reply. IfSome reply (λ reply.
-        replies_of session.old (command_read item.now) ≡ reply ∷ [])) }
-    ensures none { IfOk result (λ reply. IfNone reply (replies_of session.old (command_read item.now) ≡ [])) }
+        replies_of (state_of session.old) (command_read item.now) ≡ reply ∷ [])) }
+    ensures none { IfOk result (λ reply. IfNone reply (replies_of (state_of session.old) (command_read item.now) ≡ [])) }
     ensures said { IfOk result (λ reply. IfSome reply (λ reply. IsFalse (is_memory_fault reply))) }
+    ensures regular { IfOk result (λ reply. IfSome reply IsRegularReply) }
 {
     match read_command(alloc, item) {
         Ok(None) => Ok(None),
@@ -74,10 +78,10 @@ fn answer_item<L: Ledger>(
     replies: &mut Vec<u8>,
     steps: &mut Steps<L>,
 ) -> Result<(), OutOfMemory>
-    ensures state { OnOk result (session.new ≡ state_behind session.old (command_read item.now)) }
+    ensures state { OnOk result (state_of session.new ≡ state_after_line (state_of session.old) (command_read item.now)) }
     ensures replies { (items : List Item) → OnOk result
-        (replies.new.items ++ text_of_replies (replies_to session.new items)
-        ≡ replies.old.items ++ text_of_replies (replies_to session.old (item.now ∷ items))) }
+        (replies.new.items ++ text_of_replies (replies_to (state_of session.new) items)
+        ≡ replies.old.items ++ text_of_replies (replies_to (state_of session.old) (item.now ∷ items))) }
 {
     if let Some(reply) = reply_to(alloc, item, session, steps)? {
         let text = print_reply(alloc, &reply)?;
@@ -96,7 +100,7 @@ fn answer_last<L: Ledger>(
 ) -> Result<(), OutOfMemory>
     requires { whole_items_of splitter ≡ [] }
     ensures { OnOk result (replies.new.items
-        ≡ replies.old.items ++ text_of_replies (replies_to session.old (items_of splitter))) }
+        ≡ replies.old.items ++ text_of_replies (replies_to (state_of session.old) (items_of splitter))) }
 {
     match splitter.finish()? {
         Some(item) => answer_item(alloc, &item, session, replies, steps),

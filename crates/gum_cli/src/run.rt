@@ -5,6 +5,7 @@ ghost use Rattle.byte_io.specs.Source.{Took};
 ghost use Rattle.byte_io.specs.Sink.{HasRoom, Wrote, WrotePart};
 ghost use Rattle.gum_cli.specs.Run.{script_limit, piece_length, is_run, RoomForReplies, IsWithinLimit, IsDone, IsCutOff};
 
+use crate::laws::replies_are_sound;
 use crate::respond::respond;
 use byte_io::{Failed, Sink, Source};
 use decimal18::OutOfMemory;
@@ -164,6 +165,7 @@ pub fn run<S: Source, K: Sink, L: Ledger>(
     let Ok(replies) = respond(alloc, &script, steps) else {
         return Status::OutOfMemory;
     };
+    replies_are_sound();
     match write_all(sink, &replies) {
         Ok(()) => Status::Done,
         Err(Failed) => Status::WriteFault,

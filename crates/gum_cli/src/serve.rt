@@ -1,10 +1,10 @@
 ghost use Rattle.std.specs.Prelude.{◌≡◌, IsFalse, IfOk};
-ghost use Rattle.answers.specs.Commands.{Command as Asked, command_of};
-ghost use Rattle.answers.specs.declared.reply.Reply.{Reply as Given};
+ghost use Rattle.std.specs.Result.{result_ok};
+ghost use Rattle.answers.specs.Commands.{command_of, IsRegularCommand};
+ghost use Rattle.answers.specs.Replies.{IsRegularAnswer, IsRegularReply};
 ghost use Rattle.script_lines.specs.Texts.{is_memory_fault};
-ghost use Rattle.edit_session.specs.Machine.{State, step};
-ghost use Rattle.edit_session.specs.Calculable.{CommandHasExponents};
-ghost use Rattle.edit_session.specs.Calls.{edit_reply, history_reply, mark_reply, ask_reply, Does, Gives};
+ghost use Rattle.edit_session.specs.Live.{state_of};
+ghost use Rattle.edit_session.specs.Calls.{edit_reply, history_reply, mark_reply, ask_reply, Does};
 
 use answers::{Answer, AskFault, Command, HistoryFault, MarkFault, Reply};
 use decimal18::OutOfMemory;
@@ -17,15 +17,17 @@ use std::sync::ledger::Ledger;
 ///
 /// # Errors
 ///
-/// [`OutOfMemory`] where there is no memory for it.
+/// [`OutOfMemory`] exactly where the call of the session found no memory, so never for a step forward, and in
+/// the place of no refusal but that of an edit.
 pub(crate) fn serve<L: Ledger>(
     session: &mut Session,
     command: Command,
     steps: &mut Steps<L>,
 ) -> Result<Reply, OutOfMemory>
-    requires { CommandHasExponents (command_of command) }
-    ensures step { IfOk result (λ reply. step session.old (command_of command) ≡ (session.new, reply)) }
+    requires { IsRegularCommand (command_of command) }
+    ensures step { Does (state_of session.old) (command_of command) (state_of session.new) (result_ok result) }
     ensures said { IfOk result (λ reply. IsFalse (is_memory_fault reply)) }
+    ensures regular { IfOk result IsRegularReply }
 {
     match command {
         Command::Change(edit) => answer_edit(session.edit(edit)),
@@ -38,11 +40,11 @@ pub(crate) fn serve<L: Ledger>(
     }
 }
 
-// The reply to an edit.
+// The reply to an edit, or out of memory exactly where the session found none.
 fn answer_edit(done: Result<(), EditFault>) -> Result<Reply, OutOfMemory>
-    ensures step { (old new : State) (command : Asked) → Does old command new (edit_reply done)
-        → IfOk result (λ reply. step old command ≡ (new, reply)) }
+    ensures reply { result_ok result ≡ edit_reply done }
     ensures said { IfOk result (λ reply. IsFalse (is_memory_fault reply)) }
+    ensures regular { IfOk result IsRegularReply }
 {
     match done {
         Ok(()) => Ok(Reply::Fine),
@@ -51,11 +53,11 @@ fn answer_edit(done: Result<(), EditFault>) -> Result<Reply, OutOfMemory>
     }
 }
 
-// The reply to a step back or forward.
+// The reply to a step back or forward, or out of memory exactly where the session found none.
 fn answer_step(done: Result<(), HistoryFault>) -> Result<Reply, OutOfMemory>
-    ensures step { (old new : State) (command : Asked) → Does old command new (history_reply done)
-        → IfOk result (λ reply. step old command ≡ (new, reply)) }
+    ensures reply { result_ok result ≡ history_reply done }
     ensures said { IfOk result (λ reply. IsFalse (is_memory_fault reply)) }
+    ensures regular { IfOk result IsRegularReply }
 {
     match done {
         Ok(()) => Ok(Reply::Fine),
@@ -64,11 +66,11 @@ fn answer_step(done: Result<(), HistoryFault>) -> Result<Reply, OutOfMemory>
     }
 }
 
-// The reply to a mark or to its being restored.
+// The reply to a mark or to its being restored, or out of memory exactly where the session found none.
 fn answer_mark(done: Result<(), MarkFault>) -> Result<Reply, OutOfMemory>
-    ensures step { (old new : State) (command : Asked) → Does old command new (mark_reply done)
-        → IfOk result (λ reply. step old command ≡ (new, reply)) }
+    ensures reply { result_ok result ≡ mark_reply done }
     ensures said { IfOk result (λ reply. IsFalse (is_memory_fault reply)) }
+    ensures regular { IfOk result IsRegularReply }
 {
     match done {
         Ok(()) => Ok(Reply::Fine),
@@ -77,10 +79,11 @@ fn answer_mark(done: Result<(), MarkFault>) -> Result<Reply, OutOfMemory>
     }
 }
 
-// The reply to a query.
+// The reply to a query, or out of memory exactly where the session found none.
 fn answer_query(answered: Result<Answer, AskFault>) -> Result<Reply, OutOfMemory>
-    ensures reply { (reply : Given) → Gives (ask_reply answered) reply → IfOk result (λ given. given ≡ reply) }
+    ensures reply { result_ok result ≡ ask_reply answered }
     ensures said { IfOk result (λ reply. IsFalse (is_memory_fault reply)) }
+    ensures regular { IfOk answered IsRegularAnswer → IfOk result IsRegularReply }
 {
     match answered {
         Ok(answer) => Ok(Reply::Said(answer)),

@@ -1,6 +1,7 @@
 use Rattle.std.proofs.Common.{◌≡◌, ◌++◌, ◌∷◌, [], IfSome, OnOk, Result, Ok, Err, sym, ◌∙◌, ap, subst}
 use Rattle.std.proofs.lemmas.List.{append-nil}
 use Rattle.script_lines.specs.Items.{items_of}
+use Rattle.edit_session.specs.Live.{state_of}
 use Rattle.gum_cli.specs.Script.{replies_to, text_of_replies}
 use Rattle.gum_cli.proofs.respond.answer_last.Goals as goal
 
@@ -15,5 +16,5 @@ returns-in-Some g c =
     subst (λ o. IfSome o (λ item. items_of c.args.splitter ≡ item ∷ [])) c.in-Some.is c.in_ok-item.ensures.some in
     on_ok c.answer_item.result
     (λ h. sym (append-nil c.answer_item.new.replies.items) ∙ h
-    ∙ ap (λ items. c.args.replies.now.items ++ text_of_replies (replies_to c.args.session.now items)) (sym last))
+    ∙ ap (λ items. c.args.replies.now.items ++ text_of_replies (replies_to (state_of c.args.session.now) items)) (sym last))
     (c.answer_item.ensures.replies [])

@@ -1,6 +1,5 @@
 use Rattle.std.proofs.Common.{rules}
 use Rattle.script_lines.specs.Items.{items_of}
-use Rattle.gum_cli.proofs.Sound.{all_sound}
 use Rattle.gum_cli.proofs.run.run.Goals as goal
 
 pub returns-in-Ok-write_all-clause-done : goal.returns-in-Ok-write_all-clause-done
@@ -12,5 +11,5 @@ returns-in-Ok-write_all-clause-done g c =
       met_end = search rules;
       none_left = search rules;
       wrote = search rules;
-      sound = all_sound (items_of c.in-Ok.script.items);
+      sound = c.replies_are_sound.ensures (items_of c.in-Ok.script.items);
     }
