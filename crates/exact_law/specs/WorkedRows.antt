@@ -1,9 +1,9 @@
 -- Small models, by which the definitions can be read: their values are computed by the definitions.
-use Rattle.std.specs.Prelude.{ℕ, cond, Option, Some, None, List, [], ◌∷◌, ℤ, pos, negsuc, nat_eq}
+use Rattle.std.specs.Prelude.{ℕ, zero, suc, Bool, true, false, cond, Some, None, List, [], ◌∷◌, ℤ, pos, negsuc, nat_eq}
 use Rattle.exact_fraction.specs.Number.{ℚ, of_ℤ, ◌/ℚ◌, inv_ℚ}
 use Rattle.exact_law.specs.Model.{Num, Key, Neg, Add, Sub, Mul, Div, Pow, Body, Input, Formula, Row}
 use Rattle.exact_law.specs.Law.{Group, Own, Pair, Joint, Column, declared_pair}
-use Rattle.exact_law.specs.WrittenRule.{Rule, Binary, FourOutcomes}
+use Rattle.exact_law.specs.WrittenRule.{Rule, Binary, FourOutcomes, Ends, Span}
 
 abbrev pub whole : ℕ → ℚ
 whole n = of_ℤ (pos n)
@@ -66,9 +66,36 @@ unequal_pair =
 abbrev pub unequal_pair_groups : List (Group ℕ)
 unequal_pair_groups = Pair 0 1 (whole 4) (whole 9) (whole 3) (inv_ℚ (whole 8)) ∷ []
 
+-- the same with each key one more
+abbrev pub renamed_pair : List (Row ℕ)
+renamed_pair =
+    row 1 (Input (whole 5))
+    ∷ row 2 (Input (whole 7))
+    ∷ row 3 (Formula (Add (Key 1) (Mul (Num (whole 2)) (Key 2))))
+    ∷ []
+
+abbrev pub renamed_pair_groups : List (Group ℕ)
+renamed_pair_groups = Pair 1 2 (whole 4) (whole 9) (whole 3) (inv_ℚ (whole 8)) ∷ []
+
+-- two formulas that use one another
+abbrev pub cycle : List (Row ℕ)
+cycle = row 0 (Formula (Key 1)) ∷ row 1 (Formula (Key 0)) ∷ []
+
+-- whether the key is one of the two
+unfoldable pub in_cycle : ℕ → Bool
+in_cycle zero = true
+in_cycle (suc zero) = true
+in_cycle (suc (suc n)) = false
+
 -- 11 joint readings of A and B: 2 and 3, and ten times 1 and 1; S = A + B
 abbrev pub readings_but : ℕ → ℕ → ℚ
 readings_but first t = cond (nat_eq t 0) (whole first) (whole 1)
+
+abbrev pub first_column : Column ℕ
+first_column = record { key = 0; reading = readings_but 2 }
+
+abbrev pub second_column : Column ℕ
+second_column = record { key = 1; reading = readings_but 3 }
 
 abbrev pub eleven_readings : List (Row ℕ)
 eleven_readings =
@@ -79,7 +106,7 @@ eleven_readings =
 
 abbrev pub eleven_readings_groups : List (Group ℕ)
 eleven_readings_groups =
-    Joint 11 (record { key = 0; reading = readings_but 2 } ∷ record { key = 1; reading = readings_but 3 } ∷ []) ∷ []
+    Joint 11 (first_column ∷ second_column ∷ []) ∷ []
 
 -- X = 2, Y = 3, and a row for each operation
 abbrev pub operations : List (Row ℕ)
@@ -133,3 +160,10 @@ between_limits_binary = record { lower = Some (whole 0); upper = Some (whole 20)
 
 abbrev pub no_limits : Rule
 no_limits = record { lower = None; upper = None; guard = ratio (pos 1) 2; form = Binary }
+
+abbrev pub ends : ℚ → ℚ → Ends
+ends a b = record { low = a; high = b }
+
+-- a distance from a to b whose square is from c to d
+abbrev pub span : ℤ → ℤ → ℕ → ℕ → Span
+span a b c d = record { distance = ends (of_ℤ a) (of_ℤ b); square = ends (whole c) (whole d) }

@@ -22,6 +22,12 @@ ghost use Rattle.exact_law.specs.Rounding.{at_place, IsTwoDigits, IsNearest, Dig
 ghost use Rattle.exact_law.specs.WrittenRule.{Form, Statement, Ends, IsWithin, Span, AllWithin, Agrees, is_guarded, is_inside, is_near, all_of, guarded_over, inside_over, near_over, all_over, Stated, decision, stated_at};
 ghost use Rattle.exact_law.specs.Renaming.{KeepsApart, EachOf, EachRowKey, EachMember, Passes, renamed_rows, renamed_group, renamed_groups};
 
+pub use worked::{
+    factors_are_those_of_the_table, worked_degrees, worked_operations, worked_pair,
+    worked_premises, worked_roundings, worked_rows, worked_statements, worked_table,
+    worked_undefined_rows,
+};
+
 /// Sharing changes nothing: in an order of rows of the model, the value of a formula row, whether it is
 /// defined and its derivative by every input are those of its own formula, at the values and derivatives
 /// of the quantities that it uses. So those of the expansion are found row by row.
@@ -31,8 +37,8 @@ pub fn rows_give_the_expansion<K>()
         → IsByRow same model m f }
 {}
 
-/// An input has a value. A key that is no quantity of the model has none, and none has a formula that
-/// uses a key without a value; so no key has one whose formula uses itself, directly or through others.
+/// An input has a value. A key that is no quantity of the model has none. Nor has a key whose formula uses
+/// itself, directly or through others, or a key that uses such a one.
 pub fn keys_without_a_value<K>()
     ensures input { (same : K → K → Bool) (model : List (Row K)) (n : K) (q : ℚ) → body_of same model n ≡ Some (Input q)
         → has_value same model n ≡ true }
@@ -64,7 +70,7 @@ pub fn sweep_gives_the_derivatives<K>()
 /// of two quantities does not depend on their order, and its square is at most the product of their
 /// variances. A group must be sound: no variance and no 1/ν negative, and the square of a pair's covariance
 /// at most the product of its variances, as it is for a declared correlation coefficient from -1 to 1; of a
-/// table nothing is asked.
+/// table nothing is asked. And each member of a group must stand once among the model's inputs.
 pub fn law_is_the_sum_of_its_parts<K>()
     ensures sum { (same : K → K → Bool) → IsSameTest same → (model : List (Row K)) (groups : List (Group K))
         → AllGroups (IsSoundFor same (inputs_of model)) groups
@@ -140,9 +146,9 @@ pub fn what_the_ends_round_to_all_between_do()
     ensures hundredths { (x z y : ℚ) (m : ℕ) → x ≤ℚ z → z ≤ℚ y → IsHundredths x m → IsHundredths y m → IsHundredths z m }
 {}
 
-/// A number above 0 has two digits, and in one way, and 0 has none of them; they are those of the two steps 'the place where the
-/// root has two digits, and there the nearest whole number, with 100 as 10 at the next place'. A number
-/// that is not negative has hundredths, and in one way. A correlation coefficient is one of two variances
+/// A number above 0 has two digits, and in one way, and 0 has none of them; they are those of the two steps
+/// 'the place where the root has two digits, and there the nearest whole number, with 100 as 10 at the next
+/// place'. A number that is not negative has hundredths, and in one way. A correlation coefficient is one of two variances
 /// above 0, and has hundredths in one way.
 pub fn digits_are_there_once()
     ensures two_digits { (v : ℚ) → of_ℤ (pos 0) <ℚ v → (m : ℕ) × ((e : ℤ) × IsTwoDigits v m e) }

@@ -17,6 +17,7 @@ unfolding ◌+ℚ◌ ◌*ℚ◌ neg_ℚ inv_ℚ is_zero_ℚ is_at_most_ℚ floor
 returns c = record {
   unequal = ap FiniteDegrees (same_by_test _ _ refl);
   one_counts = ap FiniteDegrees (same_by_test _ _ refl);
+  second_counts = ap FiniteDegrees (same_by_test _ _ refl);
   none_counts = refl;
   sound = (
     record { sound = (record { holds = refl }, record { holds = refl }); in_inputs = refl },
