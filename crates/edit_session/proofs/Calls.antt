@@ -13,7 +13,7 @@ use Rattle.answers.specs.declared.reply.Answer.{Answer}
 use Rattle.answers.specs.declared.reply.Reply.{Reply}
 use Rattle.edit_session.specs.Machine.{State, last_of, verdict, edited, undone, may_mark, marked, kept_as, reply_at, step}
 use Rattle.edit_session.specs.Replies.{reply_to}
-use Rattle.edit_session.specs.Calls.{edit_reply, ask_reply, is_refusal, may_want_memory, Does, Gives}
+use Rattle.edit_session.specs.Calls.{edit_reply, ask_reply, is_refusal, may_be_out_of_memory, Does, Gives}
 
 -- ---- memory for a step back
 last_there : (sheet : Sheet) (sheets : List Sheet) → is_some (slice_get (sheet ∷ sheets) (length sheets)) ≡ true
@@ -30,12 +30,12 @@ undone_fine : (state : State) (last : Option Sheet) → is_some last ≡ true �
 undone_fine state None e = absurd (cc)
 undone_fine state (Some sheet) e = refl
 
-pub undo_may_want : (state : State) (n : ℕ) → length state.past ≡ suc n → IsTrue (may_want_memory state Undo)
-undo_may_want state n e = undone_fine state (last_of state.past) (has_last state.past n e)
+pub undo_may_be_out : (state : State) (n : ℕ) → length state.past ≡ suc n → IsTrue (may_be_out_of_memory state Undo)
+undo_may_be_out state n e = undone_fine state (last_of state.past) (has_last state.past n e)
 
 -- ---- memory for a mark
-pub mark_may_want : (state : State) (name : List ℕ) → may_mark state.marks name ≡ true → IsTrue (may_want_memory state (Mark name))
-mark_may_want state name e = subst (λ may. IsTrue (not (is_refusal (marked state name may).1))) (sym e) refl
+pub mark_may_be_out : (state : State) (name : List ℕ) → may_mark state.marks name ≡ true → IsTrue (may_be_out_of_memory state (Mark name))
+mark_may_be_out state name e = subst (λ may. IsTrue (not (is_refusal (marked state name may).1))) (sym e) refl
 
 -- ---- edits
 pub edit_refused : (state : State) (edit : Edit) (fault : EditFault) → (fault ≢ OutOfMemory → verdict state.present edit ≡ Err fault)

@@ -52,20 +52,20 @@ is_refusal (History fault) = true
 is_refusal (Mark fault) = true
 is_refusal (Ask fault) = true
 
--- where a call may want memory: for an edit at any time, for a step forward never, and for the others to carry
--- the command out, but not to refuse it
-abbrev pub may_want_memory : State → Command → Bool
-may_want_memory state (Change edit) = true
-may_want_memory state Redo = false
-may_want_memory state Undo = not (is_refusal (step state Undo).1)
-may_want_memory state (MarkPresent name) = not (is_refusal (step state (MarkPresent name)).1)
-may_want_memory state (Restore name) = not (is_refusal (step state (Restore name)).1)
-may_want_memory state (AskPresent query) = not (is_refusal (step state (AskPresent query)).1)
-may_want_memory state (AskAt name query) = not (is_refusal (step state (AskAt name query)).1)
+-- where a call may be out of memory: at an edit always, at a step forward never, and at the others where the
+-- command is carried out, not where it is refused
+abbrev pub may_be_out_of_memory : State → Command → Bool
+may_be_out_of_memory state (Change edit) = true
+may_be_out_of_memory state Redo = false
+may_be_out_of_memory state Undo = not (is_refusal (step state Undo).1)
+may_be_out_of_memory state (MarkPresent name) = not (is_refusal (step state (MarkPresent name)).1)
+may_be_out_of_memory state (Restore name) = not (is_refusal (step state (Restore name)).1)
+may_be_out_of_memory state (AskPresent query) = not (is_refusal (step state (AskPresent query)).1)
+may_be_out_of_memory state (AskAt name query) = not (is_refusal (step state (AskAt name query)).1)
 
--- ---- the call does the machine's step, or finds no memory where it may want some, and leaves the state as it was
+-- ---- the call does the machine's step, or is out of memory where it may be, and leaves the state as it was
 abbrev pub Does : State → Command → State → Option Reply → Type 0
-Does old command new None = (new ≡ old) × IsTrue (may_want_memory old command)
+Does old command new None = (new ≡ old) × IsTrue (may_be_out_of_memory old command)
 Does old command new (Some reply) = step old command ≡ (new, reply)
 
 -- the call gives this reply, or finds no memory for one that is no refusal

@@ -20,7 +20,7 @@ use value_cache::Evaluation;
 ///
 /// # Errors
 ///
-/// [`AskFault::NoSuchResult`] exactly where the query names no quantity of the sheet.
+/// [`AskFault::NoSuchResult`] exactly where the query names no quantity of the sheet, or out of memory.
 pub(crate) fn ask_sheet<L: Ledger>(
     alloc: Global,
     sheet: &Sheet,

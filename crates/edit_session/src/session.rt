@@ -167,7 +167,7 @@ impl Session {
     ///
     /// # Errors
     ///
-    /// [`AskFault::NoSuchResult`] exactly where the query names no quantity of the sheet.
+    /// [`AskFault::NoSuchResult`] exactly where the query names no quantity of the sheet, or out of memory.
     pub fn ask<L: Ledger>(
         &mut self,
         query: &Query,
@@ -184,8 +184,8 @@ impl Session {
     ///
     /// # Errors
     ///
-    /// [`AskFault::NoMark`] exactly where no mark has the name, and then
-    /// [`AskFault::NoSuchResult`] exactly where the query names no quantity of the sheet.
+    /// [`AskFault::NoMark`] exactly where no mark has the name, and then [`AskFault::NoSuchResult`] exactly
+    /// where the query names no quantity of the sheet, or out of memory.
     pub fn ask_at<L: Ledger>(
         &mut self,
         mark: &Name,

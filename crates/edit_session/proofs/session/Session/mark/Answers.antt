@@ -11,7 +11,7 @@ use Rattle.edit_session.specs.Machine.{marked, may_mark}
 use Rattle.indexmap.specs.IndexMap.{insert_entry}
 use Rattle.std.specs.Prelude.{bytes_eq}
 use Rattle.edit_session.proofs.Steps.{mark_step}
-use Rattle.edit_session.proofs.Calls.{mark_may_want}
+use Rattle.edit_session.proofs.Calls.{mark_may_be_out}
 use Rattle.std.specs.Prelude.{true}
 use Rattle.edit_session.proofs.session.Session.mark.Goals as goal
 
@@ -45,6 +45,6 @@ pub returns : goal.returns
 returns c = (
   subst (λ l. state_from c.self.inside.present c.self.inside.past.items c.self.inside.future.items c.insert.new.self.entries ≡ state_of l) c.self.view_is
       (ap (state_from c.self.inside.present c.self.inside.past.items c.self.inside.future.items) c.in-Err.ensures.err),
-  mark_may_want (state_of c.args.self.now) c.args.name
+  mark_may_be_out (state_of c.args.self.now) c.args.name
       (subst (λ l. may_mark (state_of l).marks c.args.name ≡ true) c.self.view_is (sym c.may_mark.ensures ∙ c.if-not-may_mark.false)),
 )
