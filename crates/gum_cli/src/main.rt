@@ -4,6 +4,8 @@
 
 mod exit;
 mod laws;
+#[cfg(test)]
+mod limit_tests;
 mod respond;
 mod rows;
 mod run;

@@ -128,7 +128,7 @@ pub fn run<S: Source, K: Sink, L: Ledger>(
     ensures nothing_written { IsTrue (is_run words.now.items)
         → result ≢ Status.Done → result ≢ Status.WriteFault → sink.new ≡ sink.old }
 
-    // A script within the limit is answered where neither count of faults rises, but for want of memory.
+    // A script within the limit is answered where neither count of faults rises, or is out of memory.
     ensures complete { IsTrue (is_run words.now.items)
         → (Rose (S.faults source.old) (S.faults source.new) → ⊥)
         → (Rose (K.faults sink.old) (K.faults sink.new) → ⊥)
@@ -144,7 +144,7 @@ pub fn run<S: Source, K: Sink, L: Ledger>(
     ensures read_fault { result ≡ Status.ReadFault → Rose (S.faults source.old) (S.faults source.new) }
     ensures write_fault { result ≡ Status.WriteFault → Rose (K.faults sink.old) (K.faults sink.new) }
 
-    // More than the limit was taken exactly at the input limit, but for want of memory.
+    // More than the limit was taken exactly at the input limit, unless the run is out of memory.
     ensures input_limit { result ≡ Status.InputLimit
         → S.count source.old + script_limit < S.count source.new }
     ensures over_limit { S.count source.old + script_limit < S.count source.new

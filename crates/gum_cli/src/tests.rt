@@ -139,7 +139,11 @@ fn run_in_memory<L: Ledger>(
     Ok(run(rt.alloc(), &words(rt, "run")?, source, sink, &mut steps))
 }
 
-fn replies_to(rt: &HostRuntime, word: &str, script: &[u8]) -> Result<(Status, Vec<u8>), Fail> {
+pub(crate) fn replies_to(
+    rt: &HostRuntime,
+    word: &str,
+    script: &[u8],
+) -> Result<(Status, Vec<u8>), Fail> {
     run_streams::<Brand>(rt, &words(rt, word)?, script, Blank::new(1))
 }
 
@@ -203,7 +207,7 @@ fn refuses_lines(rt: HostRuntime) -> Result<(), Fail> {
     Ok(())
 }
 
-// A dump is the same before and behind each refused line.
+// A dump is the same before and after each refused line.
 #[test]
 fn refusals_leave_the_sheet(rt: HostRuntime) -> Result<(), Fail> {
     let mut script = SHEET.to_vec(rt.alloc())?;
@@ -319,6 +323,19 @@ fn ends_at_a_failing_read(rt: HostRuntime) -> Result<(), Fail> {
     let status = run_in_memory::<Brand>(&rt, &mut source, &mut sink, Blank::new(1))?;
     assert_eq!(rt; status, Status::ReadFault);
     assert_eq!(rt; sink.written().len(), 0);
+    Ok(())
+}
+
+// No read comes after the one that met the end, so that it cannot fail.
+#[test]
+fn ends_before_a_read_that_would_fail(rt: HostRuntime) -> Result<(), Fail> {
+    let fails = [5].to_vec(rt.alloc())?;
+    let pieces = [3, 1].to_vec(rt.alloc())?;
+    let mut source = MemorySource::new(b"value X\n".to_vec(rt.alloc())?, fails, pieces);
+    let mut sink = MemorySink::new(rt.alloc(), 25, Vec::new(rt.alloc()))?;
+    let status = run_in_memory::<Brand>(&rt, &mut source, &mut sink, Blank::new(1))?;
+    assert_eq!(rt; status, Status::Done);
+    assert_eq!(rt; sink.written(), b"refused no_such_result X\n".as_slice());
     Ok(())
 }
 
