@@ -2,7 +2,7 @@
 
 ghost use Rattle.std.specs.Prelude.{◌≡◌, ℕ, suc, true, false, Some, None, List, [], ◌∷◌, map, nat_eq, pos, negsuc};
 ghost use Rattle.exact_fraction.specs.Number.{ℚ, of_ℤ, inv_ℚ};
-ghost use Rattle.exact_law.specs.Model.{body_of, exact_value, exact_slope, has_value, value_of, derivative_of, body_uses, IsOrderOf, IsCyclic};
+ghost use Rattle.exact_law.specs.Model.{body_of, estimate, exact_value, exact_slope, has_value, value_of, derivative_of, body_uses, IsOrderOf, IsCyclic};
 ghost use Rattle.exact_law.specs.Law.{Own, Pair, mean, declared_pair, covariance, covariance_in, inputs_of, law, law_where_defined, part_where_defined, IsSoundFor, AllGroups, PartTheInputs, OnceAmong};
 ghost use Rattle.exact_law.specs.Degrees.{NoDegrees, InfiniteDegrees, FiniteDegrees, Percent95, Percent9545, Percent99, inverse_degrees, degrees_of, thousandths, first_row, later_rows, infinite_row, row_of, factor};
 ghost use Rattle.exact_law.specs.Rounding.{at_place, IsTwoDigits, IsHundredths, IsCorrelation, AreDigitsOf, Zero};
@@ -24,7 +24,7 @@ pub fn worked_rows()
 
 /// Each operation at X = 2 and Y = 3: the negative of X, the sum, the difference, the product and the
 /// quotient of X and Y, X to the powers 3, -2 and 0, and the number 7, with their derivatives by X and by
-/// Y; and what X and Y are used by.
+/// Y; what X and Y are used by; and the estimates, which are 0 for a formula and for what is no quantity.
 pub fn worked_operations()
     ensures values { map (exact_value nat_eq operations) formula_rows
         ≡ of_ℤ (negsuc 1) ∷ whole 5 ∷ of_ℤ (negsuc 0) ∷ whole 6 ∷ ratio (pos 2) 3 ∷ whole 8 ∷ ratio (pos 1) 4 ∷ whole 1 ∷ whole 7 ∷ [] }
@@ -41,6 +41,7 @@ pub fn worked_operations()
         ≡ true ∷ true ∷ true ∷ true ∷ true ∷ true ∷ true ∷ true ∷ true ∷ true ∷ [] }
     ensures value_there { value_of nat_eq operations 3 ≡ Some (of_ℤ (pos 5)) }
     ensures derivative_there { derivative_of nat_eq operations 5 1 ≡ Some (of_ℤ (pos 2)) }
+    ensures estimates { map (estimate nat_eq operations) (0 ∷ 2 ∷ 99 ∷ []) ≡ whole 2 ∷ whole 0 ∷ whole 0 ∷ [] }
 {}
 
 /// A quotient by 0 and a power of 0 with a negative exponent have no value, and whatever uses one of them

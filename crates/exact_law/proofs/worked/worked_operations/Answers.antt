@@ -22,4 +22,5 @@ returns c = record {
   with_value = refl;
   value_there = ap Some (same_by_test _ _ refl);
   derivative_there = ap Some (same_by_test _ _ refl);
+  estimates = same_lists _ _ refl;
 }
