@@ -50,7 +50,7 @@ Wrote-write n written written' room room' piece within appended used = record {
   used = subst (Falls room room') (sym (length-take-le n piece within)) used;
 }
 
--- a front of the bytes is written, and then a write of the rest took n of it
+-- a prefix of the bytes is written, and then a write of the rest took n of it
 pub Wrote-more : (at n : ℕ) (written written' written'' : Option (List ℕ)) (room room' room'' : Option ℕ) (bytes rest : List ℕ)
     → Wrote written written' room room' (take at bytes) → rest ≡ drop at bytes → n ≤ length rest → Appends written' written'' (take n rest) → Falls room' room'' n
     → Wrote written written'' room room'' (take (at + n) bytes)
@@ -71,30 +71,30 @@ pub Wrote-room : (n k : ℕ) (written written' : Option (List ℕ)) (room room' 
     → Wrote written written' room room' bytes → HasRoom room n → length bytes + k ≤ n → HasRoom room' k
 Wrote-room n k written written' room room' bytes wrote enough fewer = HasRoom-falls room room' (length bytes) n k enough wrote.used fewer
 
--- a front that stands in the bytes was written
-pub WrotePart-front : (many : ℕ) (written written' : Option (List ℕ)) (room room' : Option ℕ) (bytes : List ℕ)
+-- a prefix that stands in the bytes was written
+pub WrotePart-prefix : (many : ℕ) (written written' : Option (List ℕ)) (room room' : Option ℕ) (bytes : List ℕ)
     → many ≤ length bytes → Wrote written written' room room' (take many bytes) → WrotePart written written' room room' bytes
-WrotePart-front many written written' room room' bytes within wrote = record { many = many; within = within; wrote = wrote }
+WrotePart-prefix many written written' room room' bytes within wrote = record { many = many; within = within; wrote = wrote }
 
--- a whole is a front of itself
+-- a whole is a prefix of itself
 pub WrotePart-whole : (written written' : Option (List ℕ)) (room room' : Option ℕ) (bytes : List ℕ)
     → Wrote written written' room room' bytes → WrotePart written written' room room' bytes
 WrotePart-whole written written' room room' bytes wrote =
-    WrotePart-front (length bytes) written written' room room' bytes (omega arith)
+    WrotePart-prefix (length bytes) written written' room room' bytes (omega arith)
     (subst (Wrote written written' room room') (sym (take_all (length bytes) bytes (omega arith))) wrote)
 
--- a front of some bytes is a front of the same bytes and more
+-- a prefix of some bytes is a prefix of the same bytes and more
 pub WrotePart-longer : (written written' : Option (List ℕ)) (room room' : Option ℕ) (bytes more : List ℕ)
     → WrotePart written written' room room' bytes → WrotePart written written' room room' (bytes ++ more)
 WrotePart-longer written written' room room' bytes more part =
-    WrotePart-front part.many written written' room room' (bytes ++ more) (omega (arith, part.within, length-append bytes more))
+    WrotePart-prefix part.many written written' room room' (bytes ++ more) (omega (arith, part.within, length-append bytes more))
     (subst (Wrote written written' room room') (sym (take-append-le part.many bytes more part.within)) part.wrote)
 
--- some bytes were written, and then a front of others
+-- some bytes were written, and then a prefix of others
 pub WrotePart-after : (written written' written'' : Option (List ℕ)) (room room' room'' : Option ℕ) (first second : List ℕ)
     → Wrote written written' room room' first → WrotePart written' written'' room' room'' second → WrotePart written written'' room room'' (first ++ second)
 WrotePart-after written written' written'' room room' room'' first second wrote part =
-    WrotePart-front (length first + part.many) written written'' room room'' (first ++ second) (omega (arith, part.within, length-append first second))
+    WrotePart-prefix (length first + part.many) written written'' room room'' (first ++ second) (omega (arith, part.within, length-append first second))
     (subst (Wrote written written'' room room'') (sym (take-append-add first second part.many)) (Wrote-trans wrote part.wrote))
 
-pub ruleset sink_steps = (HasRoom-fewer, HasRoom-falls, Falls-nothing, Falls-trans, Wrote-nothing, Wrote-trans, Wrote-write, Wrote-more, Wrote-failed, Wrote-room, WrotePart-front, WrotePart-whole, WrotePart-longer, WrotePart-after)
+pub ruleset sink_steps = (HasRoom-fewer, HasRoom-falls, Falls-nothing, Falls-trans, Wrote-nothing, Wrote-trans, Wrote-write, Wrote-more, Wrote-failed, Wrote-room, WrotePart-prefix, WrotePart-whole, WrotePart-longer, WrotePart-after)

@@ -23,7 +23,7 @@ pub record Wrote (old_written new_written : Option (List ℕ)) (old_room new_roo
   pub appended : Appends old_written new_written bytes
   pub used : Falls old_room new_room (length bytes)
 
--- some writes took a front of these bytes, and no more
+-- some writes took a prefix of these bytes, and no more
 pub record WrotePart (old_written new_written : Option (List ℕ)) (old_room new_room : Option ℕ) (bytes : List ℕ) : Type 0 where
   pub many : ℕ
   pub within : many ≤ length bytes

@@ -10,9 +10,9 @@
 #![tactic(auto)]
 
 mod failed;
-mod front;
 mod memory_sink;
 mod memory_source;
+mod prefix;
 mod schedule;
 mod sink;
 mod source;

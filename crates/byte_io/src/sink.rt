@@ -18,7 +18,7 @@ pub trait Sink {
     // The count of faults.
     ghost faults: { Self → ℕ };
 
-    /// Writes the front of `piece` and answers how many bytes it took, at least one of a piece that
+    /// Writes the start of `piece` and answers how many bytes it took, at least one of a piece that
     /// is not empty. After [`Failed`] the sink stands where it stood, but for its count of faults.
     fn write(&mut self, piece: &[u8]) -> Result<usize, Failed>
         requires { HasRoom (room self.old) (length piece.now) }
@@ -26,7 +26,7 @@ pub trait Sink {
         ensures bound { WritesAtMost result piece.now }
         ensures some { IfOk result (λ n. 0 < length piece.now → 0 < n) }
 
-        // The front of the piece is appended to what was written, and uses its room.
+        // The start of the piece is appended to what was written, and uses its room.
         ensures written { WriteAppends (written self.old) (written self.new) result piece.now }
         ensures told { SameTold (written self.old) (written self.new) }
         ensures room { UsesRoom (room self.old) (room self.new) result }

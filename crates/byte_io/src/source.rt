@@ -24,17 +24,17 @@ pub trait Source {
     // The count of faults.
     ghost faults: { Self → ℕ };
 
-    /// Reads into the front of `piece` and answers how many bytes it gave, none for a piece that is
-    /// not empty exactly at the end. A read into an empty piece leaves whether the end was met. After [`Failed`] the source
-    /// stands where it stood, but for its count of faults. What stands behind the bytes given is not
-    /// said.
+    /// Reads into the start of `piece` and answers how many bytes it gave, none for a piece that is
+    /// not empty exactly at the end. A read into an empty piece leaves whether the end was met. After
+    /// [`Failed`] the source stands where it stood, but for its count of faults. What stands after the
+    /// bytes given is not said.
     fn read(&mut self, piece: &mut [u8]) -> Result<usize, Failed>
         requires { count self.old ≤ 2 ^ 63 }
 
         ensures bound { ReadsAtMost result piece.new }
         ensures count { Counts (count self.old) (count self.new) result }
 
-        // The front of the piece is appended to what was taken, and gone from what was left.
+        // The start of the piece is appended to what was taken, and gone from what was left.
         ensures taken { WriteAppends (taken self.old) (taken self.new) result piece.new }
         ensures left { ReadConsumes (left self.old) (left self.new) result piece.new }
         ensures taken_told { SameTold (taken self.old) (taken self.new) }

@@ -4,7 +4,7 @@ ghost use Rattle.std.specs.Io.KnownBytes.{WriteAppends, ReadConsumes};
 ghost use Rattle.byte_io.specs.Source.{Counts, MeetsEnd};
 ghost use Rattle.std.proofs.Common.{rules};
 
-use crate::front::give;
+use crate::prefix::give;
 use crate::{Failed, Source};
 
 /// Bytes in memory. Its reads never fail.

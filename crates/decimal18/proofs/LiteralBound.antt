@@ -112,7 +112,7 @@ long_is_none negative n raised lowered long = no_bound _ _ none where
         let d = raised + b.places - lowered in
         absurd (omega (arith, h.digits, long.least n 0 (omega arith), at_least n d, cancel_left (unsigned_abs b.coefficient) n lowered raised b.places k size))
 
--- too many zeros behind the digits
+-- too many zeros after the digits
 pub wide_is_none : (negative : Bool) (n raised lowered : ℕ) → lowered ≤ raised → 10 ^ 18 ≤ n * 10 ^ (raised - lowered)
     → as_bound (scaled (signed negative (n * 10 ^ raised)) lowered) ≡ None
 wide_is_none negative n raised lowered more many = no_bound _ _ none where

@@ -1,4 +1,4 @@
--- Whole numbers read digit by digit: their digits in front of the zeros at their end.
+-- Whole numbers read digit by digit: their digits before the zeros at their end.
 use Rattle.std.specs.Prelude.{◌≡◌, ◌≢◌, ℕ, zero, suc, ◌+◌, ◌-◌, ◌*◌, ◌%◌, ◌^◌, ◌<◌, ◌≤◌, ◌&&◌, Bool, true, false, cond, List, [], ◌∷◌, ◌++◌, length, take, drop, get_or, refl}
 use Rattle.std.proofs.lemmas.List.Folds.{list_all-append}
 use Rattle.std.proofs.Common.{take-append-drop, subst, sym, ap, ◌∙◌, arith, rules, drop-cons, add-one}
@@ -37,7 +37,7 @@ long_digit n e below long = record { least = by } where
       let split : c * 10 ^ (suc k) ≡ c * 10 ^ k * 10 = omega (arith, ap (λ m. c * m) (pow-suc 10 k)) in
       long.least c k (omega arith)
 
--- 17 zeros behind a digit, and one digit more
+-- 17 zeros after a digit, and one digit more
 pub many_zeros : (d z e : ℕ) → d ≢ 0 → 16 < z → 10 ^ 18 ≤ d * 10 ^ z * 10 + e
 many_zeros d z e some many =
     let power : 10 ^ 17 ≤ 10 ^ z = pow-le-pow_right {n = 10} (lit≤ tt) many in
@@ -80,10 +80,10 @@ long_after (c ∷ cs) n all long =
     let parts = cut_true (is_ascii_digit c) (are_digits cs) all in
     long_after cs (n * 10 + digit_value c) parts.1 (long_digit n (digit_value c) (digit_below c parts.0) long)
 
--- the digits in front are digits
-pub front_is_digits : (text : List ℕ) → are_digits (take (prefix_len is_ascii_digit text) text) ≡ true
-front_is_digits [] = refl
-front_is_digits (c ∷ cs) = by (is_ascii_digit c) refl (front_is_digits cs) where
+-- the leading digits are digits
+pub leading_is_digits : (text : List ℕ) → are_digits (take (prefix_len is_ascii_digit text) text) ≡ true
+leading_is_digits [] = refl
+leading_is_digits (c ∷ cs) = by (is_ascii_digit c) refl (leading_is_digits cs) where
   by : (t : Bool) → is_ascii_digit c ≡ t → are_digits (take (prefix_len is_ascii_digit cs) cs) ≡ true
       → are_digits (take (cond t (1 + prefix_len is_ascii_digit cs) 0) (c ∷ cs)) ≡ true
   by false e h = refl
@@ -91,8 +91,8 @@ front_is_digits (c ∷ cs) = by (is_ascii_digit c) refl (front_is_digits cs) whe
       let one : 1 + prefix_len is_ascii_digit cs ≡ suc (prefix_len is_ascii_digit cs) = omega arith in
       ap (λ k. are_digits (take k (c ∷ cs))) one ∙ both_true (is_ascii_digit c) (are_digits (take (prefix_len is_ascii_digit cs) cs)) e h
 
-digits_behind : (text : List ℕ) (i : ℕ) → are_digits text ≡ true → are_digits (drop i text) ≡ true
-digits_behind text i all =
+digits_after : (text : List ℕ) (i : ℕ) → are_digits text ≡ true → are_digits (drop i text) ≡ true
+digits_after text i all =
     (cut_true (are_digits (take i text)) (are_digits (drop i text))
     (sym (list_all-append is_ascii_digit (take i text) (drop i text)) ∙ ap are_digits (take-append-drop i text) ∙ all)).1
 
@@ -101,32 +101,32 @@ pub long_on : (text : List ℕ) (n i v : ℕ) → are_digits text ≡ true → i
     → digits_value_after 10 n (drop i text) ≡ v → IsLong (n * 10 + (get_or text i 0 - 48)) → IsLong v
 long_on text n i v all within value long =
     subst IsLong (sym (value_from text n i all within) ∙ value)
-    (long_after (drop (i + 1) text) (n * 10 + (get_or text i 0 - 48)) (digits_behind text (i + 1) all) long)
+    (long_after (drop (i + 1) text) (n * 10 + (get_or text i 0 - 48)) (digits_after text (i + 1) all) long)
 
--- ---- the digits in front of the point, then those behind it
+-- ---- the digits before the point, then those after it
 pub after-append : (xs ys : List ℕ) (n : ℕ) → digits_value_after 10 n (xs ++ ys) ≡ digits_value_after 10 (digits_value_after 10 n xs) ys
 after-append [] ys n = refl
 after-append (x ∷ xs) ys n = after-append xs ys (n * 10 + digit_value x)
 
-pub parts_value : (whole behind : List ℕ) (n m : ℕ) → digits_value 10 whole ≡ n → digits_value_after 10 n behind ≡ m
-    → digits_value 10 (whole ++ behind) ≡ m
-parts_value whole behind n m e h = after-append whole behind 0 ∙ ap (λ k. digits_value_after 10 k behind) e ∙ h
+pub parts_value : (whole after : List ℕ) (n m : ℕ) → digits_value 10 whole ≡ n → digits_value_after 10 n after ≡ m
+    → digits_value 10 (whole ++ after) ≡ m
+parts_value whole after n m e h = after-append whole after 0 ∙ ap (λ k. digits_value_after 10 k after) e ∙ h
 
-pub long_whole : (whole behind : List ℕ) → are_digits behind ≡ true → IsLong (digits_value 10 whole) → IsLong (digits_value 10 (whole ++ behind))
-long_whole whole behind all long =
-    subst IsLong (sym (after-append whole behind 0)) (long_after behind (digits_value 10 whole) all long)
+pub long_whole : (whole after : List ℕ) → are_digits after ≡ true → IsLong (digits_value 10 whole) → IsLong (digits_value 10 (whole ++ after))
+long_whole whole after all long =
+    subst IsLong (sym (after-append whole after 0)) (long_after after (digits_value 10 whole) all long)
 
-pub long_behind : (whole behind : List ℕ) (n : ℕ) → digits_value 10 whole ≡ n → IsLong (digits_value_after 10 n behind)
-    → IsLong (digits_value 10 (whole ++ behind))
-long_behind whole behind n e long = subst IsLong (sym (parts_value whole behind n _ e refl)) long
+pub long_parts : (whole after : List ℕ) (n : ℕ) → digits_value 10 whole ≡ n → IsLong (digits_value_after 10 n after)
+    → IsLong (digits_value 10 (whole ++ after))
+long_parts whole after n e long = subst IsLong (sym (parts_value whole after n _ e refl)) long
 
 -- digits and zeros times one more power
 pub more_zeros : (n digits zeros raised : ℕ) → n ≡ digits * 10 ^ zeros → digits * 10 ^ (zeros + raised) ≡ n * 10 ^ raised
 more_zeros n digits zeros raised e = omega (arith, ap (λ t. t * 10 ^ raised) e, ap (λ t. digits * t) (pow-add 10 zeros raised))
 
--- 18 zeros behind a digit
-pub many_zeros_behind : (d z : ℕ) → 0 < d → 18 ≤ z → 10 ^ 18 ≤ d * 10 ^ z
-many_zeros_behind d z some many =
+-- 18 zeros after a digit
+pub many_zeros_after : (d z : ℕ) → 0 < d → 18 ≤ z → 10 ^ 18 ≤ d * 10 ^ z
+many_zeros_after d z some many =
     let power : 10 ^ 18 ≤ 10 ^ z = pow-le-pow_right {n = 10} (lit≤ tt) many in
     let times : 1 * 10 ^ z ≤ d * 10 ^ z = mul-le-mul_right (10 ^ z) (omega arith) in
     omega arith

@@ -22,7 +22,7 @@ use Rattle.decimal18.proofs.CutOff.{below_quotient, pos_same, le_pos}
 pub ratio_of : (m n u v : ℕ) → 0 < n → Fraction
 ratio_of m n u v n0 = record { num = pos (m * 10 ^ u); den = n * 10 ^ v; positive = mul-pos n0 (one-le-pow v 10 (lit≤ tt)) }
 
--- at s places, where k zeros were put behind m
+-- at s places, where k zeros were put after m
 crossed : (m n u v s k d r : ℕ) → s + u ≡ k + v → m * 10 ^ k ≡ d * n + r → (m * 10 ^ u) * 10 ^ s ≡ d * (n * 10 ^ v) + r * 10 ^ v
 crossed m n u v s k d r e f =
     regroup m (10 ^ u) (10 ^ s) ∙ ap (λ t. m * t) (sym (pow-add 10 u s) ∙ ap (λ t. 10 ^ t) (turned u s k v e) ∙ pow-add 10 k v)
@@ -76,7 +76,7 @@ quotient_cut m n u v s k d n0 lost e h = record {
         no_rest a zero t t0 e = refl
         no_rest a (suc r) t t0 e = absurd (omega arith)
 
--- eighteen digits and more zeros in front of the point are out of range
+-- eighteen digits and more zeros before the point are out of range
 pub quotient_large : (m n u v k d : ℕ) (n0 : 0 < n) (lost : Bool) → k + v < u → IsPart (m * 10 ^ k) n d lost → 10 ^ 17 ≤ d
     → IsInRange (cls (ratio_of m n u v n0)) → ⊥
 unfolding ratio_of

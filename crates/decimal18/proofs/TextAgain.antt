@@ -13,7 +13,7 @@ use Rattle.std.specs.Char.{is_ascii_digit, digit_value}
 use Rattle.std.specs.Int.{IsInRange}
 use Rattle.std.specs.Str.Parse.{digits_value, digits_value_after}
 use Rattle.decimal18.specs.Bound.{Bound, scaled, canonical, IsBound, IsCanonical}
-use Rattle.decimal18.specs.Text.{last_digits, sign_of, behind_point, text_of}
+use Rattle.decimal18.specs.Text.{last_digits, sign_of, after_point, text_of}
 use Rattle.decimal18.specs.Digits.{signed}
 use Rattle.decimal18.specs.Literal.{Sign, Unsigned, Minus, Literal, sign_text, point_text, text_of_literal, are_digits, is_minus, Spells, exact_of, as_bound, in_range, read, parsed}
 use Rattle.decimal18.proofs.Canonical.{IsReduced-canonical, one_canonical}
@@ -39,13 +39,13 @@ length_last zero n = refl
 length_last (suc p) n =
     length-append (last_digits p (n / 10)) ((48 + n % 10) ∷ []) ∙ ap (λ k. k + 1) (length_last p (n / 10)) ∙ omega arith
 
--- the digits in front of the last ones, then these
+-- the digits before the last ones, then these
 all_again : (p n : ℕ) → digits_value_after 10 (n / 10 ^ p) (last_digits p n) ≡ n
 all_again zero n = omega arith
 all_again (suc p) n =
-    let front : n / 10 ^ suc p ≡ n / 10 / 10 ^ p = ap (λ t. n / t) (pow-suc 10 p ∙ turned (10 ^ p)) ∙ sym (div-div-eq-div-mul n 10 (10 ^ p)) in
+    let leading : n / 10 ^ suc p ≡ n / 10 / 10 ^ p = ap (λ t. n / t) (pow-suc 10 p ∙ turned (10 ^ p)) ∙ sym (div-div-eq-div-mul n 10 (10 ^ p)) in
     after-append (last_digits p (n / 10)) ((48 + n % 10) ∷ []) (n / 10 ^ suc p)
-    ∙ ap (λ m. digits_value_after 10 m (last_digits p (n / 10)) * 10 + digit_value (48 + n % 10)) front
+    ∙ ap (λ m. digits_value_after 10 m (last_digits p (n / 10)) * 10 + digit_value (48 + n % 10)) leading
     ∙ ap (λ m. m * 10 + digit_value (48 + n % 10)) (all_again p (n / 10))
     ∙ ap (λ d. n / 10 * 10 + d) (digit_byte (n % 10) (omega arith)).1
     ∙ omega arith where
@@ -62,7 +62,7 @@ unfolding sign_printed
 printed b = record {
   sign = sign_printed b.coefficient;
   whole = decimal (unsigned_abs b.coefficient / 10 ^ b.places);
-  behind_point = last_digits b.places (unsigned_abs b.coefficient);
+  after_point = last_digits b.places (unsigned_abs b.coefficient);
   exponent = None;
 }
 
@@ -80,7 +80,7 @@ point_before : (digits : List ℕ) → 0 < length digits → point_text digits �
 point_before [] some = absurd (omega arith)
 point_before (d ∷ ds) some = refl
 
-point_same : (p n : ℕ) → point_text (last_digits p n) ≡ behind_point p n
+point_same : (p n : ℕ) → point_text (last_digits p n) ≡ after_point p n
 point_same zero n = refl
 point_same (suc p) n = point_before (last_digits (suc p) n) (omega (arith, length_last (suc p) n))
 
@@ -102,7 +102,7 @@ printed_spells b h =
       written = text_same b;
       whole = digits_decimal numerals whole small;
       some = decimal_nonempty whole small;
-      behind_point = last_are_digits b.places (unsigned_abs b.coefficient);
+      after_point = last_are_digits b.places (unsigned_abs b.coefficient);
       exponent = refl;
     }
 
@@ -134,9 +134,9 @@ read_again b h least =
     ∙ ap Ok same
 
 -- ---- the length of the text
-length_behind : (p n : ℕ) → length (behind_point p n) ≤ p + 1
-length_behind zero n = omega arith
-length_behind (suc p) n = omega (arith, length_last (suc p) n)
+length_after : (p n : ℕ) → length (after_point p n) ≤ p + 1
+length_after zero n = omega arith
+length_after (suc p) n = omega (arith, length_last (suc p) n)
 
 length_sign : (c : ℤ) → length (sign_of c) ≤ 1
 length_sign (pos n) = omega arith
@@ -148,8 +148,8 @@ no_quotient (suc q) t n h below =
     let more : suc zero * t ≤ suc q * t = mul-le-mul_right t (omega arith) in
     absurd (omega arith)
 
-length_front : (p n : ℕ) → p ≤ 36 → n < 10 ^ 18 → length (decimal (n / 10 ^ p)) + p ≤ 37
-length_front p n most few = by (cases_lt p 18) where
+length_leading : (p n : ℕ) → p ≤ 36 → n < 10 ^ 18 → length (decimal (n / 10 ^ p)) + p ≤ 37
+length_leading p n most few = by (cases_lt p 18) where
   small : n / 10 ^ p < 10 ^ 18
   small = omega (arith, div-le_self n (10 ^ p))
 
@@ -164,6 +164,6 @@ pub short_text : (b : Bound) → IsBound b → length (text_of b) ≤ 39
 short_text b h =
     let size = unsigned_abs b.coefficient in
     let whole = decimal (size / 10 ^ b.places) in
-    let front = length-append (sign_of b.coefficient) whole in
-    let all = length-append (sign_of b.coefficient ++ whole) (behind_point b.places size) in
-    omega (arith, front, all, length_sign b.coefficient, length_behind b.places size, length_front b.places size h.most h.digits)
+    let leading = length-append (sign_of b.coefficient) whole in
+    let all = length-append (sign_of b.coefficient ++ whole) (after_point b.places size) in
+    omega (arith, leading, all, length_sign b.coefficient, length_after b.places size, length_leading b.places size h.most h.digits)

@@ -17,7 +17,7 @@ use Rattle.decimal18.specs.Down.{floor_at}
 shifted : (m : ℤ) (k s n : ℕ) → n ≡ s * k → ((m *ℤ pos k) *ℤ pos s) ≡ (m *ℤ pos n)
 shifted m k s n e = rw (e, ← diff_of m) (simp push (diff_same _ _ _ _ (omega arith)))
 
--- k zeros more behind the last digit
+-- k zeros more after the last digit
 pub value-shifted : (m : ℤ) (s k : ℕ) → value_of (scaled (m *ℤ pos (10 ^ k)) (s + k)) ≡ value_of (scaled m s)
 unfolding value_of
 value-shifted m s k =

@@ -1,4 +1,4 @@
--- Zeros at the end of the digits behind the point: taking them away by halving steps, and that the
+-- Zeros at the end of the digits after the point: taking them away by halving steps, and that the
 -- canonical form has none.
 use Rattle.std.specs.Prelude.{◌≡◌, ◌≢◌, ℕ, zero, suc, ◌+◌, ◌-◌, ◌*◌, ◌/◌, ◌%◌, ◌^◌, ◌<◌, ◌≤◌, Bool, true, false, ℤ, pos, negsuc, ◌*ℤ◌, neg_ℤ, unsigned_abs, refl}
 use Rattle.std.proofs.Common.{sym, ap, subst, ◌∙◌, arith, add-zero}
@@ -15,17 +15,17 @@ use Rattle.decimal18.proofs.Canonical.{IsReduced-canonical, one_canonical}
 
 -- ---- steps
 pub no_zeros_taken : (d p : ℕ) → IsWithoutZeros d p d p
-no_zeros_taken d p = record { zeros = 0; behind_point = omega arith; at_end = omega arith }
+no_zeros_taken d p = record { zeros = 0; after_point = omega arith; at_end = omega arith }
 
 pub zeros_taken : (d p k t : ℕ) → t ≡ 10 ^ k → k ≤ p → d % t ≡ 0 → IsWithoutZeros d p (d / t) (p - k)
-zeros_taken d p k t e h z = record { zeros = k; behind_point = omega arith; at_end = rw (← e) (whole d t z) } where
+zeros_taken d p k t e h z = record { zeros = k; after_point = omega arith; at_end = rw (← e) (whole d t z) } where
   whole : (d t : ℕ) → d % t ≡ 0 → d ≡ d / t * t
   whole d t z = omega arith
 
 pub zeros_twice : (d p e q f r : ℕ) → IsWithoutZeros d p e q → IsWithoutZeros e q f r → IsWithoutZeros d p f r
 zeros_twice d p e q f r h k = record {
   zeros = k.zeros + h.zeros;
-  behind_point = omega (arith, h.behind_point, k.behind_point);
+  after_point = omega (arith, h.after_point, k.after_point);
   at_end = h.at_end ∙ ap (λ n. n * 10 ^ h.zeros) k.at_end ∙ regroup f (10 ^ k.zeros) (10 ^ h.zeros) ∙ ap (λ n. f * n) (sym (pow-add 10 k.zeros h.zeros));
 } where
   regroup : (a b c : ℕ) → (a * b) * c ≡ a * (b * c)
@@ -79,7 +79,7 @@ canonical_without negative d p e q h few =
     let reduced = IsReduced-canonical (signed negative d) p in
     let f : signed negative d ≡ signed negative e *ℤ pos (10 ^ h.zeros) = ap (signed negative) h.at_end ∙ sym (signed_times negative e (10 ^ h.zeros)) in
     one_canonical _ _ reduced.canonical (few_canonical negative e q few)
-    (reduced.same ∙ ap (λ n. value_of (scaled (signed negative d) n)) h.behind_point ∙ ap (λ z. value_of (scaled z (q + h.zeros))) f
+    (reduced.same ∙ ap (λ n. value_of (scaled (signed negative d) n)) h.after_point ∙ ap (λ z. value_of (scaled z (q + h.zeros))) f
     ∙ value-shifted (signed negative e) q h.zeros)
 
 -- a number whose zeros were taken away is a bound where 18 digits and 36 places suffice

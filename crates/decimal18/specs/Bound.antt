@@ -27,7 +27,7 @@ fraction_of b = record {
 unfoldable pub value_of : Bound → ℚ
 value_of b = cls (fraction_of b)
 
--- a bound: at most 18 digits, and at most 36 of them behind the point
+-- a bound: at most 18 digits, and at most 36 of them after the point
 pub record IsBound (b : Bound) : Type 0 where
   pub digits : unsigned_abs b.coefficient < 10 ^ 18
   pub most : b.places ≤ 36
@@ -41,7 +41,7 @@ pub record IsDecimal (b : Bound) : Type 0 where
   pub bound : IsBound b
   pub canonical : IsCanonical b
 
--- c / 10 ^ p in canonical form: without the zeros at the end of the digits behind the point
+-- c / 10 ^ p in canonical form: without the zeros at the end of the digits after the point
 abbrev pub canonical : ℤ → ℕ → Bound
 canonical c zero = scaled c 0
 canonical c (suc p) =

@@ -21,7 +21,7 @@ abbrev pub rounded : Direction → ℚ → Option Bound
 rounded Down x = down x
 rounded Up x = up x
 
--- `digits` are those of x down to so many places behind the point; `lost` says whether x has more
+-- `digits` are those of x down to so many places after the point; `lost` says whether x has more
 pub record IsCutOff (x : ℚ) (digits places : ℕ) (lost : Bool) : Type 0 where
   pub first : floor_at x places ≡ pos digits
   pub all : (lost ≡ false) ↔ (x ≡ value_of (scaled (pos digits) places))
@@ -30,13 +30,13 @@ pub record IsCutOff (x : ℚ) (digits places : ℕ) (lost : Bool) : Type 0 where
 pub record IsEnough (digits places : ℕ) (lost : Bool) : Type 0 where
   pub reason : (lost ≡ false) ⊎ ((36 ≤ places) ⊎ (10 ^ 17 ≤ digits))
 
--- the same number with some zeros less at the end of its digits behind the point
+-- the same number with some zeros less at the end of its digits after the point
 pub record IsWithoutZeros (digits places shorter fewer : ℕ) : Type 0 where
   pub zeros : ℕ
-  pub behind_point : places ≡ fewer + zeros
+  pub after_point : places ≡ fewer + zeros
   pub at_end : digits ≡ shorter * 10 ^ zeros
 
--- fewer than so many zeros stand at the end of the digits behind the point
+-- fewer than so many zeros stand at the end of the digits after the point
 pub record HasFewZeros (digits places zeros : ℕ) : Type 0 where
   pub few : zeros ≤ places → digits % 10 ^ zeros ≢ 0
 
@@ -64,7 +64,7 @@ growth true true Down = 1
 growth false true Up = 1
 growth _ _ _ = 0
 
--- the digits of `whole` in front of its last ones, which are below `unit`; `lost` says whether those are not 0
+-- the digits of `whole` before its last ones, which are below `unit`; `lost` says whether those are not 0
 pub record IsPart (whole unit digits : ℕ) (lost : Bool) : Type 0 where
   pub rest : ℕ
   pub split : whole ≡ digits * unit + rest

@@ -29,7 +29,7 @@ pub record IsInRange (x : ℚ) : Type 0 where
 unfoldable pub is_in_range : ℚ → Bool
 is_in_range x = is_at_most_ℚ (of_ℤ (neg_ℤ top)) x && is_at_most_ℚ x (of_ℤ top)
 
--- the coefficient of x when it is cut off, downwards, after p digits behind the point
+-- the coefficient of x when it is cut off, downwards, after p digits after the point
 abbrev pub floor_at : ℚ → ℕ → ℤ
 floor_at x p = floor_ℚ (x *ℚ of_ℤ (pos (10 ^ p)))
 
@@ -37,7 +37,7 @@ floor_at x p = floor_ℚ (x *ℚ of_ℤ (pos (10 ^ p)))
 abbrev pub fits_18_digits : ℤ → Bool
 fits_18_digits c = nat_lt (unsigned_abs c) (10 ^ 18)
 
--- x cut off after as many digits as p, p - 1, .., 0 behind the point allow with 18 digits in all
+-- x cut off after as many digits as p, p - 1, .., 0 after the point allow with 18 digits in all
 unfoldable pub cut_off : ℚ → ℕ → Bound
 cut_off x zero = canonical (floor_at x 0) 0
 cut_off x (suc p) =

@@ -10,7 +10,7 @@ use Rattle.decimal18.specs.declared.literal.NumFault.{NumFault}
 use Rattle.decimal18.specs.declared.literal.NumFault.TheVariants.{NotNumber, NumberRange}
 
 -- ---- a literal, its text and its value
--- the sign in front, if any
+-- the leading sign, if any
 pub data Sign : Type 0 where
   Unsigned : Sign
   Plus : Sign
@@ -22,11 +22,11 @@ pub record Exponent : Type 0 where
   pub sign : Sign
   pub digits : List ℕ
 
--- a sign, the digits in front of the point, those behind it (with none there is no point), and an exponent
+-- a sign, the digits before the point, those after it (with none there is no point), and an exponent
 pub record Literal : Type 0 where
   pub sign : Sign
   pub whole : List ℕ
-  pub behind_point : List ℕ
+  pub after_point : List ℕ
   pub exponent : Option Exponent
 
 -- the sign as it is written
@@ -35,7 +35,7 @@ sign_text Unsigned = []
 sign_text Plus = codes "+"
 sign_text Minus = codes "-"
 
--- the point and the digits behind it, and nothing where there are none
+-- the point and the digits after it, and nothing where there are none
 abbrev pub point_text : List ℕ → List ℕ
 point_text [] = []
 point_text (digit ∷ digits) = codes "." ++ digit ∷ digits
@@ -47,7 +47,7 @@ exponent_text (Some e) = e.letter ∷ sign_text e.sign ++ e.digits
 
 -- how the literal is written
 abbrev pub text_of_literal : Literal → List ℕ
-text_of_literal l = sign_text l.sign ++ l.whole ++ point_text l.behind_point ++ exponent_text l.exponent
+text_of_literal l = sign_text l.sign ++ l.whole ++ point_text l.after_point ++ exponent_text l.exponent
 
 -- each byte is a digit
 abbrev pub are_digits : List ℕ → Bool
@@ -71,7 +71,7 @@ pub record Spells (text : List ℕ) (l : Literal) : Type 0 where
   pub written : text_of_literal l ≡ text
   pub whole : are_digits l.whole ≡ true
   pub some : 0 < length l.whole
-  pub behind_point : are_digits l.behind_point ≡ true
+  pub after_point : are_digits l.after_point ≡ true
   pub exponent : is_exponent l.exponent ≡ true
 
 -- the sign is a `-`
@@ -90,11 +90,11 @@ abbrev pub lowered : Option Exponent → ℕ
 lowered None = 0
 lowered (Some e) = if is_minus e.sign then digits_value 10 e.digits else 0
 
--- all digits as one whole number, times 10 ^ (exponent - number of digits behind the point)
+-- all digits as one whole number, times 10 ^ (exponent - number of digits after the point)
 abbrev pub exact_of : Literal → Bound
 exact_of l = scaled
-    (signed (is_minus l.sign) (digits_value 10 (l.whole ++ l.behind_point) * 10 ^ raised l.exponent))
-    (length l.behind_point + lowered l.exponent)
+    (signed (is_minus l.sign) (digits_value 10 (l.whole ++ l.after_point) * 10 ^ raised l.exponent))
+    (length l.after_point + lowered l.exponent)
 
 -- the text is a literal, and its exact value is x
 pub record IsLiteral (text : List ℕ) (x : ℚ) : Type 0 where
@@ -109,57 +109,57 @@ pub record IsOutOfRange (text : List ℕ) : Type 0 where
   pub no_bound : (b : Bound) → IsBound b → value_of b ≢ value
 
 -- ---- the literal that a text is, if any
--- the digits at the front, as many as there are
-abbrev pub front_digits : List ℕ → List ℕ
-front_digits text = take (prefix_len is_ascii_digit text) text
+-- the digits at the start, as many as there are
+abbrev pub leading_digits : List ℕ → List ℕ
+leading_digits text = take (prefix_len is_ascii_digit text) text
 
--- what follows the digits at the front
-abbrev pub behind_digits : List ℕ → List ℕ
-behind_digits text = drop (prefix_len is_ascii_digit text) text
+-- what follows the digits at the start
+abbrev pub after_digits : List ℕ → List ℕ
+after_digits text = drop (prefix_len is_ascii_digit text) text
 
--- the sign at the front
-abbrev pub front_sign : List ℕ → Sign
-front_sign [] = Unsigned
-front_sign (byte ∷ bytes) = if byte == 43 then Plus else if byte == 45 then Minus else Unsigned
+-- the sign at the start
+abbrev pub leading_sign : List ℕ → Sign
+leading_sign [] = Unsigned
+leading_sign (byte ∷ bytes) = if byte == 43 then Plus else if byte == 45 then Minus else Unsigned
 
--- what follows the sign at the front
-abbrev pub behind_sign : List ℕ → List ℕ
-behind_sign [] = []
-behind_sign (byte ∷ bytes) = if byte == 43 then bytes else if byte == 45 then bytes else byte ∷ bytes
+-- what follows the sign at the start
+abbrev pub after_sign : List ℕ → List ℕ
+after_sign [] = []
+after_sign (byte ∷ bytes) = if byte == 43 then bytes else if byte == 45 then bytes else byte ∷ bytes
 
--- the digits behind a point at the front
-abbrev pub front_point : List ℕ → List ℕ
-front_point [] = []
-front_point (byte ∷ bytes) = if byte == 46 then front_digits bytes else []
+-- the digits after a point at the start
+abbrev pub leading_point : List ℕ → List ℕ
+leading_point [] = []
+leading_point (byte ∷ bytes) = if byte == 46 then leading_digits bytes else []
 
--- what follows the digits behind a point; a point without a digit is not passed
-abbrev pub behind_front_point : List ℕ → List ℕ
-behind_front_point [] = []
-behind_front_point (byte ∷ bytes) =
-    if byte == 46 && nat_lt 0 (prefix_len is_ascii_digit bytes) then behind_digits bytes else byte ∷ bytes
+-- what follows the digits after a point; a point without a digit is not passed
+abbrev pub after_leading_point : List ℕ → List ℕ
+after_leading_point [] = []
+after_leading_point (byte ∷ bytes) =
+    if byte == 46 && nat_lt 0 (prefix_len is_ascii_digit bytes) then after_digits bytes else byte ∷ bytes
 
 -- the exponent that the whole text is, where it is empty or one
 abbrev pub exponent_of : List ℕ → Option (Option Exponent)
 exponent_of [] = Some None
 exponent_of (byte ∷ bytes) =
-    if is_exponent_letter byte && are_exponent_digits (behind_sign bytes)
-    then Some (Some (record { letter = byte; sign = front_sign bytes; digits = behind_sign bytes })) else None
+    if is_exponent_letter byte && are_exponent_digits (after_sign bytes)
+    then Some (Some (record { letter = byte; sign = leading_sign bytes; digits = after_sign bytes })) else None
 
 -- the literal that the text without its sign is
 abbrev pub unsigned_literal : Sign → List ℕ → Option Literal
 unsigned_literal sign text =
     if nat_lt 0 (prefix_len is_ascii_digit text)
     then option_map
-    (λ e. record { sign = sign; whole = front_digits text; behind_point = front_point (behind_digits text); exponent = e })
-    (exponent_of (behind_front_point (behind_digits text)))
+    (λ e. record { sign = sign; whole = leading_digits text; after_point = leading_point (after_digits text); exponent = e })
+    (exponent_of (after_leading_point (after_digits text)))
     else None
 
 -- the literal that the text is
 abbrev pub literal_of : List ℕ → Option Literal
-literal_of text = unsigned_literal (front_sign text) (behind_sign text)
+literal_of text = unsigned_literal (leading_sign text) (after_sign text)
 
 -- ---- the bound that a text is
--- at most 18 digits, and at most 36 of them behind the point
+-- at most 18 digits, and at most 36 of them after the point
 abbrev pub is_bound : Bound → Bool
 is_bound b = nat_lt (unsigned_abs b.coefficient) (10 ^ 18) && nat_le b.places 36
 

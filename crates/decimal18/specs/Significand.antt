@@ -1,4 +1,4 @@
--- Whole numbers by their digits in front of the zeros at their end.
+-- Whole numbers by their digits before the zeros at their end.
 use Rattle.std.specs.Prelude.{◌≡◌, ℕ, ◌*◌, ◌^◌, ◌≤◌, Option, None, Some}
 use Rattle.decimal18.specs.declared.significand.Significand.{Significand}
 
@@ -6,7 +6,7 @@ use Rattle.decimal18.specs.declared.significand.Significand.{Significand}
 abbrev pub number_of : Significand → ℕ
 number_of s = s.digits * 10 ^ s.zeros
 
--- n has more than 18 digits in front of the zeros at its end
+-- n has more than 18 digits before the zeros at its end
 pub record IsLong (n : ℕ) : Type 0 where
   pub least : (c k : ℕ) → n ≡ c * 10 ^ k → 10 ^ 18 ≤ c
 

@@ -6,7 +6,7 @@ ghost use Rattle.decimal18.specs.Text.{text_of};
 
 use crate::magnitude::Magnitude;
 use crate::powers::power_of_ten;
-use crate::print::{push_behind_point, sign};
+use crate::print::{push_after_point, sign};
 use crate::sign::{is_negative, with_sign};
 use crate::{Bytes, OutOfMemory};
 use itoa::Buffer;
@@ -37,7 +37,7 @@ const LIMIT: u64 = 1_000_000_000_000_000_000;
 
 impl Dec {
     /// The number `coefficient / 10^places`, and `None` where it is no bound. Zeros at the end of the
-    /// digits behind the point do not count.
+    /// digits after the point do not count.
     pub fn new(coefficient: i64, places: u8) -> Option<Dec>
         ensures valid { IsSome result ↔ IsBound (canonical coefficient places) }
         ensures value { IfSome result (λ d. d ≡ canonical coefficient places) }
@@ -73,7 +73,7 @@ impl Dec {
         self.coefficient
     }
 
-    /// The number of digits behind the point.
+    /// The number of digits after the point.
     pub fn places(self) -> u8
         ensures value { result ≡ self.places }
         ensures most { result ≤ 36 }
@@ -123,7 +123,7 @@ impl Dec {
         let whole = (size as u128 / power_of_ten(places)) as u64;
         let mut text = Bytes::from_slice(alloc, sign(self.coefficient))?;
         text.extend_from_slice(Buffer::new().format(whole).as_bytes())?;
-        push_behind_point(&mut text, size, places)?;
+        push_after_point(&mut text, size, places)?;
         Ok(text)
     }
 }

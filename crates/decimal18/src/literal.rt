@@ -8,7 +8,7 @@ ghost use Rattle.exact_fraction.specs.Number.{ℚ};
 ghost use Rattle.decimal18.specs.Bound.{scaled, value_of};
 ghost use Rattle.decimal18.specs.declared.literal.NumFault.TheVariants.{NotNumber, NumberRange};
 ghost use Rattle.decimal18.specs.Digits.{signed};
-ghost use Rattle.decimal18.specs.Literal.{is_minus, are_digits, are_exponent_digits, raised, lowered, front_digits, behind_digits, front_sign, behind_sign, front_point, behind_front_point, exponent_of, as_bound, unsigned_literal, read, parsed, Sign, IsLiteral, IsOutOfRange};
+ghost use Rattle.decimal18.specs.Literal.{is_minus, are_digits, are_exponent_digits, raised, lowered, leading_digits, after_digits, leading_sign, after_sign, leading_point, after_leading_point, exponent_of, as_bound, unsigned_literal, read, parsed, Sign, IsLiteral, IsOutOfRange};
 
 use crate::Dec;
 use crate::magnitude::Magnitude;
@@ -23,7 +23,7 @@ const DIGITS: u64 = 18;
 /// The least number of 19 digits.
 const LIMIT: u128 = 1_000_000_000_000_000_000;
 
-/// The most digits of a bound behind its point.
+/// The most digits of a bound after its point.
 const MOST_PLACES: u64 = 36;
 
 /// Why a text is not read as a bound.
@@ -48,10 +48,10 @@ const ONE: Power = Power {
     lowered: 0,
 };
 
-/// Whether the text begins with a `-`, and the text behind its sign, if it has one.
+/// Whether the text begins with a `-`, and the text after its sign, if it has one.
 fn split_sign(text: &[u8]) -> (bool, &[u8])
-    ensures negative { result.0 ≡ is_minus (front_sign text.now) }
-    ensures rest { result.1.now ≡ behind_sign text.now }
+    ensures negative { result.0 ≡ is_minus (leading_sign text.now) }
+    ensures rest { result.1.now ≡ after_sign text.now }
 {
     match text {
         [b'+', rest @ ..] => (false, rest),
@@ -75,8 +75,8 @@ fn count_of_digits(text: &[u8]) -> usize
 
 /// The digits with which the text begins, and the rest.
 fn split_digits(text: &[u8]) -> (&[u8], &[u8])
-    ensures digits { result.0.now ≡ front_digits text.now }
-    ensures rest { result.1.now ≡ behind_digits text.now }
+    ensures digits { result.0.now ≡ leading_digits text.now }
+    ensures rest { result.1.now ≡ after_digits text.now }
     ensures count { length result.0.now ≡ prefix_len is_ascii_digit text.now }
     ensures parts { length result.0.now + length result.1.now ≡ length text.now }
     ensures all { are_digits result.0.now ≡ true }
@@ -85,16 +85,16 @@ fn split_digits(text: &[u8]) -> (&[u8], &[u8])
     (&text[..count], &text[count..])
 }
 
-/// The digits behind a point with which the text begins, and the rest. Where no digit is behind the
+/// The digits after a point with which the text begins, and the rest. Where no digit is after the
 /// point, the rest begins with the point.
 fn split_point(text: &[u8]) -> (&[u8], &[u8])
-    ensures digits { result.0.now ≡ front_point text.now }
-    ensures rest { result.1.now ≡ behind_front_point text.now }
+    ensures digits { result.0.now ≡ leading_point text.now }
+    ensures rest { result.1.now ≡ after_leading_point text.now }
     ensures within { length result.0.now ≤ length text.now }
     ensures all { are_digits result.0.now ≡ true }
 {
-    if let [b'.', behind @ ..] = text {
-        let (digits, rest) = split_digits(behind);
+    if let [b'.', after @ ..] = text {
+        let (digits, rest) = split_digits(after);
         if !digits.is_empty() {
             return (digits, rest);
         }
@@ -135,13 +135,13 @@ fn read_exponent(text: &[u8]) -> Option<Power>
         ≡ option_map (λ e. (raised e, lowered e)) (exponent_of text.now) }
     ensures below { IfSome result (λ p. (p.raised < 1000) × (p.lowered < 1000)) }
 {
-    let [letter, behind @ ..] = text else {
+    let [letter, after @ ..] = text else {
         return Some(ONE);
     };
     if *letter != b'e' && *letter != b'E' {
         return None;
     }
-    let (negative, digits) = split_sign(behind);
+    let (negative, digits) = split_sign(after);
     if !are_exponent_digits(digits) {
         return None;
     }
@@ -203,19 +203,19 @@ fn scaled_bound(negative: bool, digits: u64, raised: u64, lowered: u64) -> Optio
 }
 
 /// The number that all the digits write, times the power and divided by `10^(number of digits
-/// behind the point)`, with the sign, as a bound.
-fn exact_bound(negative: bool, whole: &[u8], behind_point: &[u8], power: Power) -> Option<Dec>
+/// after the point)`, with the sign, as a bound.
+fn exact_bound(negative: bool, whole: &[u8], after_point: &[u8], power: Power) -> Option<Dec>
     requires whole { are_digits whole.now ≡ true }
-    requires behind_point { are_digits behind_point.now ≡ true }
-    requires room { length whole.now + length behind_point.now < 2 ^ 63 }
+    requires after_point { are_digits after_point.now ≡ true }
+    requires room { length whole.now + length after_point.now < 2 ^ 63 }
     requires power { (power.raised < 1000) × (power.lowered < 1000) }
     ensures { result ≡ as_bound (scaled
-        (signed negative (digits_value 10 (whole.now ++ behind_point.now) * 10 ^ power.raised))
-        (length behind_point.now + power.lowered)) }
+        (signed negative (digits_value 10 (whole.now ++ after_point.now) * 10 ^ power.raised))
+        (length after_point.now + power.lowered)) }
 {
-    let size = Significand::ZERO.append(whole)?.append(behind_point)?;
+    let size = Significand::ZERO.append(whole)?.append(after_point)?;
     let raised = size.zeros + power.raised;
-    let lowered = behind_point.len() as u64 + power.lowered;
+    let lowered = after_point.len() as u64 + power.lowered;
     scaled_bound(negative, size.digits, raised, lowered)
 }
 
@@ -223,15 +223,15 @@ fn exact_bound(negative: bool, whole: &[u8], behind_point: &[u8], power: Power) 
 fn parse_unsigned(negative: bool, text: &[u8]) -> Result<Dec, NumFault>
     ensures { (sign : Sign) → is_minus sign ≡ negative → result ≡ read (unsigned_literal sign text.now) }
 {
-    let (whole, behind) = split_digits(text);
-    let (behind_point, rest) = split_point(behind);
+    let (whole, after) = split_digits(text);
+    let (after_point, rest) = split_point(after);
     if whole.is_empty() {
         return Err(NumFault::NotNumber);
     }
     let Some(power) = read_exponent(rest) else {
         return Err(NumFault::NotNumber);
     };
-    exact_bound(negative, whole, behind_point, power).ok_or(NumFault::NumberRange)
+    exact_bound(negative, whole, after_point, power).ok_or(NumFault::NumberRange)
 }
 
 /// The bound that the text is: an optional sign, one or more digits, optionally a point and one or

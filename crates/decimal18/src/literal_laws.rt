@@ -18,7 +18,7 @@ pub fn printed_bounds_are_read_again()
 {}
 
 /// Where `n` does not end in 0, `n * 10^raised / 10^lowered` is a bound exactly where it has at most
-/// 18 digits with the zeros behind them, and at most 36 places.
+/// 18 digits with the zeros after them, and at most 36 places.
 pub fn digits_and_power_decide_bounds()
     ensures { (n raised lowered : ℕ) → n % 10 ≢ 0
         → IsSome (as_bound (scaled (pos (n * 10 ^ raised)) lowered))
@@ -39,8 +39,8 @@ pub fn worked_literals()
     ensures nineteen_digits { parsed (codes "1.000000000000000001") ≡ Err NumberRange }
     ensures largest_exponent { parsed (codes "1e999") ≡ Err NumberRange }
     ensures four_digits { parsed (codes "1e0000") ≡ Err NotNumber }
-    ensures no_digit_behind { parsed (codes "5.") ≡ Err NotNumber }
-    ensures no_digit_in_front { parsed (codes ".5") ≡ Err NotNumber }
+    ensures no_digit_after { parsed (codes "5.") ≡ Err NotNumber }
+    ensures no_digit_before { parsed (codes ".5") ≡ Err NotNumber }
     ensures two_signs { parsed (codes "--1") ≡ Err NotNumber }
     ensures empty { parsed (codes "") ≡ Err NotNumber }
 {}

@@ -9,7 +9,7 @@ pub struct Magnitude {
 }
 
 impl Magnitude {
-    /// The same number without the zeros at the end of the digits behind the point.
+    /// The same number without the zeros at the end of the digits after the point.
     pub fn without_zeros(self) -> Magnitude
         ensures same { IsWithoutZeros self.digits self.places result.digits result.places }
         ensures few { HasFewZeros result.digits result.places 1 }
@@ -34,7 +34,7 @@ impl Magnitude {
         number.shortened(1, 10)
     }
 
-    // Without so many zeros behind the point, where there are as many; `power` is 1 with these zeros.
+    // Without so many zeros after the point, where there are as many; `power` is 1 with these zeros.
     #[inline(always)]
     fn shortened(self, zeros: u32, power: u64) -> Magnitude
         requires positive { 0 < self.digits }

@@ -1,5 +1,5 @@
 ghost use Rattle.std.specs.Prelude.{◌≡◌, ◌+◌, ◌/◌, ◌%◌, ◌^◌, ◌≤◌, ◌++◌, OnOk};
-ghost use Rattle.decimal18.specs.Text.{sign_of, behind_point, last_digits};
+ghost use Rattle.decimal18.specs.Text.{sign_of, after_point, last_digits};
 
 use crate::powers::power_of_ten;
 use crate::{Bytes, OutOfMemory};
@@ -11,14 +11,14 @@ pub fn sign(coefficient: i64) -> &'static [u8]
     if coefficient < 0 { b"-" } else { b"" }
 }
 
-/// Puts the point and the digits behind it at the end, where there are such digits.
+/// Puts the point and the digits after it at the end, where there are such digits.
 ///
 /// # Errors
 ///
 /// [`OutOfMemory`] where there is no memory for them.
-pub fn push_behind_point(text: &mut Bytes, size: u64, places: u32) -> Result<(), OutOfMemory>
+pub fn push_after_point(text: &mut Bytes, size: u64, places: u32) -> Result<(), OutOfMemory>
     requires { places ≤ 36 }
-    ensures { OnOk result (text.new ≡ text.old ++ behind_point places size) }
+    ensures { OnOk result (text.new ≡ text.old ++ after_point places size) }
 {
     if places == 0 {
         return Ok(());
@@ -27,7 +27,7 @@ pub fn push_behind_point(text: &mut Bytes, size: u64, places: u32) -> Result<(),
     push_last_digits(text, size, places)
 }
 
-// Puts so many of the last digits at the end, with zeros in front where there are fewer.
+// Puts so many of the last digits at the end, with leading zeros where there are fewer.
 fn push_last_digits(text: &mut Bytes, size: u64, count: u32) -> Result<(), OutOfMemory>
     requires { count ≤ 36 }
     ensures { OnOk result (text.new ≡ text.old ++ last_digits count size) }
@@ -40,7 +40,7 @@ fn push_last_digits(text: &mut Bytes, size: u64, count: u32) -> Result<(), OutOf
     Ok(())
 }
 
-// The digit of which so many stand behind, as its character.
+// The digit of which so many stand after, as its character.
 fn digit_at(size: u64, place: u32) -> u8
     requires { place ≤ 36 }
     ensures { result ≡ 48 + size / 10 ^ place % 10 }

@@ -18,7 +18,7 @@ const STEP_POWER: u128 = 1_000_000_000_000_000_000;
 // Digits from here on are 18 at least.
 const ENOUGH: u128 = 100_000_000_000_000_000;
 
-// The whole part of a number divided by another, after `shift` zeros were put behind it.
+// The whole part of a number divided by another, after `shift` zeros were put after it.
 #[derive(Clone, Copy, Debug, PartialEq, Eq)]
 struct Division {
     digits: u128,
@@ -36,7 +36,7 @@ pub fn quotient(a: Dec, b: Dec, direction: Direction) -> Option<Dec>
     let b_places = b.places() as u32;
     let quotient = divide(a.size() as u128, b.size(), 36 + b_places - a_places);
     let places = quotient.shift + a_places;
-    // Eighteen digits, and one zero at least in front of the point.
+    // Eighteen digits, and one zero at least before the point.
     if places < b_places {
         return None;
     }
@@ -72,7 +72,7 @@ fn is_negative(number: i128) -> bool
     number < 0
 }
 
-// Long division, eighteen digits a step, until there are 18 digits or `most` zeros were put behind
+// Long division, eighteen digits a step, until there are 18 digits or `most` zeros were put after
 // the number.
 fn divide(size: u128, divisor: u64, most: u32) -> Division
     requires positive { 0 < divisor }

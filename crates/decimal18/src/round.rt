@@ -59,7 +59,7 @@ fn growth(negative: bool, lost: bool, direction: Direction) -> u64
     }
 }
 
-// As many of the first digits as a bound can have, and `None` where more than 18 stand in front of
+// As many of the first digits as a bound can have, and `None` where more than 18 stand before
 // the point.
 fn first_digits(digits: u128, places: u32, lost: bool) -> Option<First>
     requires { places ≤ 72 }
@@ -108,10 +108,10 @@ fn surplus(digits: u128) -> u32
     ensures reached { 0 < result → 10 ^ (17 + result) ≤ digits }
     ensures most { result ≤ 21 }
 {
-    let front = digits / STEP;
-    if front < STEP {
-        count_digits(front as u64)
+    let leading = digits / STEP;
+    if leading < STEP {
+        count_digits(leading as u64)
     } else {
-        18 + count_digits((front / STEP) as u64)
+        18 + count_digits((leading / STEP) as u64)
     }
 }

@@ -1,4 +1,4 @@
-//! Whole numbers, read digit by digit, by their digits in front of the zeros at their end.
+//! Whole numbers, read digit by digit, by their digits before the zeros at their end.
 
 ghost use Rattle.std.specs.Prelude.{◌≡◌, ◌+◌, ◌*◌, ◌%◌, ◌^◌, ◌<◌, ◌≤◌};
 

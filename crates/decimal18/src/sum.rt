@@ -16,7 +16,7 @@ struct Signed {
     size: u128,
 }
 
-// The digits in front of others, and whether those others are not 0.
+// The digits before others, and whether those others are not 0.
 #[derive(Clone, Copy, Debug, PartialEq, Eq)]
 struct Part {
     digits: u128,
@@ -104,7 +104,7 @@ fn signed_sum(a: Signed, b: Signed) -> Signed
     }
 }
 
-// The sum where the last digit of `a`, which is not 0, stands so far in front of that of `b` that
+// The sum where the last digit of `a`, which is not 0, stands so far before that of `b` that
 // the sum has 18 digits before the last ones of `b` count.
 fn far_sum(a: Dec, b: Dec, direction: Direction) -> Option<Dec>
     requires positive { 0 < unsigned_abs a.coefficient }
@@ -124,7 +124,7 @@ fn far_sum(a: Dec, b: Dec, direction: Direction) -> Option<Dec>
     round(negative, part.digits, places, part.lost, direction)
 }
 
-// The digits in front of the unit of `lead` units and `size`, or of their difference.
+// The digits before the unit of `lead` units and `size`, or of their difference.
 fn joined(lead: u128, size: u128, unit: u128, apart: bool) -> Part
     requires unit { 0 < unit }
     requires lead { size < lead }

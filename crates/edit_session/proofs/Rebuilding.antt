@@ -1,4 +1,4 @@
--- Each command by which a sheet is built anew is carried out, and the sheet comes of it.
+-- Each command by which a sheet is built again is carried out, and the sheet comes of it.
 use Rattle.std.specs.Prelude.{◌≡◌, ℕ, ◌≤◌, Bool, true, false, ◌&&◌, ◌||◌, not, if◌then◌else◌, List, [], ◌∷◌, ◌++◌, map, length, Ok, bytes_eq, refl}
 use Rattle.std.specs.List.{list_all}
 use Rattle.std.proofs.Common.{sym, ◌∙◌, ap, ap₂, subst, arith, length-append}
@@ -24,17 +24,17 @@ of_rows rows = record { rows = rows }
 is_among-append : (a b : List Row) (n : List ℕ) → is_among (a ++ b) n ≡ (is_among a n || is_among b n)
 is_among-append a b n = list_any-append (is_named n) a b
 
--- of rows with different names those in front have different names
-once_front : (a b : List Row) → are_named_once (a ++ b) ≡ true → are_named_once a ≡ true
-once_front [] b e = refl
-once_front (row ∷ a) b e =
+-- of rows with different names the earlier ones have different names
+once_earlier : (a b : List Row) → are_named_once (a ++ b) ≡ true → are_named_once a ≡ true
+once_earlier [] b e = refl
+once_earlier (row ∷ a) b e =
     let apart : is_among (a ++ b) (name_of row) ≡ false =
     not_true (is_among (a ++ b) (name_of row)) (and_left (not (is_among (a ++ b) (name_of row))) (are_named_once (a ++ b)) e) in
     and_both (not (is_among a (name_of row))) (are_named_once a)
     (ap not (or_left (is_among a (name_of row)) (is_among b (name_of row)) (sym (is_among-append a b (name_of row)) ∙ apart)))
-    (once_front a b (and_right (not (is_among (a ++ b) (name_of row))) (are_named_once (a ++ b)) e))
+    (once_earlier a b (and_right (not (is_among (a ++ b) (name_of row))) (are_named_once (a ++ b)) e))
 
--- no row in front has the name of a later one
+-- no earlier row has the name of a later one
 once_new : (a : List Row) (row : Row) (b : List Row) → are_named_once (a ++ row ∷ b) ≡ true → is_among a (name_of row) ≡ false
 once_new [] row b e = refl
 once_new (first ∷ a) row b e =
@@ -126,14 +126,14 @@ partly_well_formed a b h = record { limit = limit; once = once-partly a b ∙ h.
   same : (n : List ℕ) → is_quantity_in (a ++ map as_input b) n ≡ is_quantity_in (a ++ b) n
   same n = quantity_is_row (a ++ map as_input b) n ∙ is_among-partly a b n ∙ sym (quantity_is_row (a ++ b) n)
 
-  front : list_all (are_known (a ++ b)) a ≡ true
-  front = and_left (list_all (are_known (a ++ b)) a) (list_all (are_known (a ++ b)) b) (sym (list_all-append (are_known (a ++ b)) a b) ∙ h.known)
+  prefix : list_all (are_known (a ++ b)) a ≡ true
+  prefix = and_left (list_all (are_known (a ++ b)) a) (list_all (are_known (a ++ b)) b) (sym (list_all-append (are_known (a ++ b)) a b) ∙ h.known)
 
   known : list_all (are_known (a ++ map as_input b)) (a ++ map as_input b) ≡ true
   known =
       list_all-append (are_known (a ++ map as_input b)) a (map as_input b)
       ∙ and_both (list_all (are_known (a ++ map as_input b)) a) (list_all (are_known (a ++ map as_input b)) (map as_input b))
-      (known_same (a ++ map as_input b) (a ++ b) same a ∙ front) (known-inputs (a ++ map as_input b) b)
+      (known_same (a ++ map as_input b) (a ++ b) same a ∙ prefix) (known-inputs (a ++ map as_input b) b)
 
 -- ---- runs
 -- from each state with the one sheet the commands are carried out, and lead to the other sheet
@@ -158,9 +158,9 @@ additions_lead done (row ∷ rest) commands last limit once lead =
     let limit' : length ((done ++ row ∷ []) ++ rest) ≤ row_limit = subst (λ rows. length rows ≤ row_limit) (sym longer) limit in
     let once' : are_named_once ((done ++ row ∷ []) ++ rest) ≡ true = ap are_named_once longer ∙ once in
     let before : IsWellFormed (of_rows (map as_input done)) =
-    inputs_well_formed done (omega (arith, length-append done (row ∷ rest), limit)) (once_front done (row ∷ rest) once) in
+    inputs_well_formed done (omega (arith, length-append done (row ∷ rest), limit)) (once_earlier done (row ∷ rest) once) in
     let after : IsWellFormed (of_rows (map as_input (done ++ row ∷ []))) =
-    inputs_well_formed (done ++ row ∷ []) (omega (arith, length-append (done ++ row ∷ []) rest, limit')) (once_front (done ++ row ∷ []) rest once') in
+    inputs_well_formed (done ++ row ∷ []) (omega (arith, length-append (done ++ row ∷ []) rest, limit')) (once_earlier (done ++ row ∷ []) rest once') in
     lead_edit (Add (as_input row)) (additions rest ++ commands) (of_rows (map as_input done)) (of_rows (map as_input (done ++ row ∷ []))) last
     (add_complete (of_rows (map as_input done)) (as_input row) before (subst IsWellFormed put after) ∙ ap Ok (sym put))
     (additions_lead (done ++ row ∷ []) rest commands last limit' once'

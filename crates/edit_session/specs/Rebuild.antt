@@ -1,4 +1,4 @@
--- How a sheet is built anew: its inputs and an input in the place of each formula first, then the formulas.
+-- How a sheet is built again: its inputs and an input in the place of each formula first, then the formulas.
 use Rattle.std.specs.Prelude.{◌≡◌, List, [], ◌∷◌, ◌++◌, map}
 use Rattle.fixed_interval.specs.Rules.{zero_bound}
 use Rattle.type_b.specs.declared.shape.Shape.TheVariants.{Exact}

@@ -36,7 +36,7 @@ pub fn sheets_keep_standing()
         → IsStandingState (step state command).0 }
 {}
 
-/// Each command by which a well-formed sheet is built anew is carried out, the sheet then stands, and the
+/// Each command by which a well-formed sheet is built again is carried out, the sheet then stands, and the
 /// query that follows has its reply.
 pub fn rebuilt_sheets_reply_alike()
     ensures { (sheet : Sheet) → IsWellFormed sheet → IsBuiltBy (rebuild sheet) sheet }

@@ -3,7 +3,8 @@ ghost use Rattle.std.specs.Prelude.{◌≡◌, ◌+◌};
 use std::marker::Model;
 use std::sync::ledger::{Blank, Book, Ledger, Share};
 
-/// How many spans were made. It takes no bytes, and only the making of a span changes it.
+/// How many operations on spans were done, whether they gave a span or a fault. It takes no bytes, and only
+/// such an operation changes it.
 #[derive(Drop)]
 pub struct Steps<L: Ledger> {
     book: Book<L>,

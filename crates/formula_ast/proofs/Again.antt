@@ -63,9 +63,9 @@ value_regular : (o : Option Bound) → ((q : Bound) → o ≡ Some q → IsPrint
 value_regular None h = tt
 value_regular (Some q) h = h q refl
 
-front_regular : (n byte : ℕ) (bytes : List ℕ) → is_ascii_digit byte ≡ true → IfSome (bound_in (parsed (take n (byte ∷ bytes)))) IsPrintable
-front_regular zero byte bytes d = rw empty_none tt
-front_regular (suc n) byte bytes d =
+first_regular : (n byte : ℕ) (bytes : List ℕ) → is_ascii_digit byte ≡ true → IfSome (bound_in (parsed (take n (byte ∷ bytes)))) IsPrintable
+first_regular zero byte bytes d = rw empty_none tt
+first_regular (suc n) byte bytes d =
     value_regular (bound_in (parsed (byte ∷ take n bytes))) (λ q e. read_printable byte (take n bytes) q d e)
 
 power_regular : (literal : List ℕ) → IfSome (power_of literal) IsDigit
@@ -83,7 +83,7 @@ power_regular (byte ∷ other ∷ others) = tt
 number_regular : (n byte : ℕ) (bytes rest : List ℕ) → is_ascii_digit byte ≡ true → IsKindRegular (number_kind (take n (byte ∷ bytes)) rest)
 number_regular n byte bytes rest d =
     cond_regular (is_glued rest) Glued (Number (bound_in (parsed (take n (byte ∷ bytes)))) (power_of (take n (byte ∷ bytes)))) tt
-    (front_regular n byte bytes d, power_regular (take n (byte ∷ bytes)))
+    (first_regular n byte bytes d, power_regular (take n (byte ∷ bytes)))
 
 -- a name
 run_all : (p : ℕ → Bool) (text : List ℕ) → list_all p (take (prefix_len p text) text) ≡ true

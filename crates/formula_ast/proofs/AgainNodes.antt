@@ -259,7 +259,7 @@ reading_fits (t ∷ ts) w n end f based fits h =
     (ap (λ o. goes_on o place refused next) (sym (step_meant w t.kind)) ∙ h)
 
 -- ---- tokens of a formula that fits and has few nodes are read as it
--- behind a name no parenthesis opens
+-- after a name no parenthesis opens
 no_open : (ts : List Token) (l : Waiting Written) (x : Written) (o : List (Waiting Written)) (c : Written)
     → run writings (AtAtom l x o) (kinds ts) ≡ Some c → opens_next ts ≡ false
 no_open [] l x o c h = refl

@@ -111,12 +111,12 @@ module _ {A : Type 0} (m : Parts A) where
       → run m (AtOperand l o) (spelling c ++ ks) ≡ run m (AtEnd l.base l.added (factor_done m l (made c)) o) ks
 
   -- a term begins
-  abbrev pub behind_left : ℕ → Option (A × Sign) → Waiting A
-  behind_left b left = record { added = left; multiplied = None; minuses = 0; base = b }
+  abbrev pub after_left : ℕ → Option (A × Sign) → Waiting A
+  after_left b left = record { added = left; multiplied = None; minuses = 0; base = b }
 
   abbrev pub TermRead : Written → Type 0
   TermRead c = (b : ℕ) (left : Option (A × Sign)) (o : List (Waiting A)) (ks : List Kind) → NoHat ks
-      → run m (AtOperand (behind_left b left) o) (spelling c ++ ks) ≡ run m (AtEnd b left (made c) o) ks
+      → run m (AtOperand (after_left b left) o) (spelling c ++ ks) ≡ run m (AtEnd b left (made c) o) ks
 
   abbrev pub SumRead : Written → Type 0
   SumRead c = (b : ℕ) (o : List (Waiting A)) (ks : List Kind) → EndsTerm ks
@@ -132,7 +132,7 @@ module _ {A : Type 0} (m : Parts A) where
   factor_of_atom c h l o ks n = h l o ks ∙ atom_ends l (made c) o ks n
 
   term_of_factor : (c : Written) → FactorRead c → TermRead c
-  term_of_factor c h b left o ks n = h (behind_left b left) o ks n
+  term_of_factor c h b left o ks n = h (after_left b left) o ks n
 
   sum_of_term : (c : Written) → TermRead c → SumRead c
   sum_of_term c h b o ks e = h b None o ks (no_hat ks e)
@@ -195,7 +195,7 @@ module _ {A : Type 0} (m : Parts A) where
 
   product_read : (s : Sign) (a b : Written) → tight s ≡ 1 → 1 ≤ rank a → 2 ≤ rank b → Does a → Does b → TermRead (Both s a b)
   product_read s a b t q r f g n left o ks e =
-      ap (λ w. run m (AtOperand (behind_left n left) o) w) (append_assoc (spelling a) (Joins s ∷ spelling b) ks)
+      ap (λ w. run m (AtOperand (after_left n left) o) w) (append_assoc (spelling a) (Joins s ∷ spelling b) ks)
       ∙ f.term q n left o (Joins s ∷ (spelling b ++ ks)) tt
       ∙ ap (λ w. run m w (spelling b ++ ks)) (product_sign n left (made a) o s t)
       ∙ g.factor r (record { added = left; multiplied = Some (made a, s); minuses = 0; base = n }) o ks e
@@ -338,7 +338,7 @@ reading_read (t ∷ ts) s n end f h =
     (refusal_ruled s n t.place t.kind (opens_next ts))
     (λ next. reading_read ts next (n + node_count s t.kind) (t.place + t.len) f) h
 
--- what spells a formula is read as it, or a rule behind the grammar refuses it
+-- what spells a formula is read as it, or a rule beyond the grammar refuses it
 pub spelt_read : (text : List ℕ) (f : Tree) → SpellsText text f → IsReadOrRuled (reading_of text) f
 unfolding reading_of
 spelt_read text f h =

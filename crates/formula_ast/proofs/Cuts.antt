@@ -10,8 +10,8 @@ use Rattle.std.proofs.lemmas.List.Splits.{slice_split_at, slice_split_none}
 pub record IsFree (text : List ℕ) (at n : ℕ) : Type 0 where
   pub free : (k : ℕ) → k < n → get_or text k 0 ≡ at → ⊥
 
-free_front : (text : List ℕ) (at n : ℕ) → n ≤ length text → IsFree text at n → All (λ byte. (byte == at) ≡ false) (take n text)
-free_front text at n within h =
+free_prefix : (text : List ℕ) (at n : ℕ) → n ≤ length text → IsFree text at n → All (λ byte. (byte == at) ≡ false) (take n text)
+free_prefix text at n within h =
     All-from_get_or (λ byte. (byte == at) ≡ false) _ 0
     (λ k below.
     let short : k < n = omega (arith, length-take {A = ℕ} n text) in
@@ -25,7 +25,7 @@ cut_at text at n within h e =
     rw (add-one, ← drop-cons text n 0 within) (sym (take-append-drop n text)) in
     ap (slice_split (λ byte. byte == at)) parts
     ∙ slice_split_at (λ byte. byte == at) (take n text) (get_or text n 0) (drop (n + 1) text)
-    (free_front text at n (omega arith) h) (eq-eqb _ _ e)
+    (free_prefix text at n (omega arith) h) (eq-eqb _ _ e)
 
 -- a text without such a byte is its only part
 pub cut_nowhere : (text : List ℕ) (at n : ℕ) → length text ≤ n → IsFree text at n → slice_split (λ byte. byte == at) text ≡ text ∷ []

@@ -1,6 +1,6 @@
 pub mod Cuts
 pub mod NameBytes
-pub mod FrontTokens
+pub mod FirstTokenSteps
 pub mod Levels
 pub mod Guards
 pub mod ReadLoop

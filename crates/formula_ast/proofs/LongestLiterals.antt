@@ -1,4 +1,4 @@
--- The number at the front of a text is the longest literal there.
+-- The number at the start of a text is the longest literal there.
 use Rattle.std.specs.Prelude.{◌≡◌, ℕ, zero, suc, ◌+◌, ◌≤◌, ◌<◌, ◌==◌, ◌&&◌, ◌||◌, Bool, true, false, cond, nat_lt, nat_le, min, List, [], ◌∷◌, ◌++◌, length, take, drop, Option, None, Some, IsSome, refl}
 use Rattle.std.proofs.Common.{sym, ap, subst, ◌∙◌, arith, append_assoc, length-append, take-append-drop}
 use Rattle.std.proofs.Math.Seq.{take-add, drop-append_seam}
@@ -6,7 +6,7 @@ use Rattle.std.proofs.lemmas.Bool.Decides.{nat_tests}
 use Rattle.std.proofs.lemmas.List.{length-take}
 use Rattle.std.specs.List.{prefix_len}
 use Rattle.std.specs.Char.{is_ascii_digit}
-use Rattle.decimal18.specs.Literal.{Sign, Unsigned, Plus, Minus, Exponent, Literal, sign_text, point_text, exponent_text, text_of_literal, are_digits, is_exponent_letter, are_exponent_digits, is_exponent, Spells, front_sign, behind_sign, literal_of}
+use Rattle.decimal18.specs.Literal.{Sign, Unsigned, Plus, Minus, Exponent, Literal, sign_text, point_text, exponent_text, text_of_literal, are_digits, is_exponent_letter, are_exponent_digits, is_exponent, Spells, leading_sign, after_sign, literal_of}
 use Rattle.decimal18.proofs.LiteralDigits.{cut_true, both_true}
 use Rattle.decimal18.proofs.LiteralText.{read_spelt, spelt_read}
 use Rattle.formula_ast.specs.Tokens.{with_point, point_len, sign_len, with_letter, exponent_len, literal_len}
@@ -64,9 +64,9 @@ record IsExponentPart (text : List ℕ) : Type 0 where
   formed : is_exponent exponent ≡ true
   written : exponent_text exponent ≡ take (exponent_len text) text
 
-front_sign_text : (text : List ℕ) → sign_text (front_sign text) ≡ take (sign_len text) text
-front_sign_text [] = refl
-front_sign_text (b ∷ bs) = by (b == 43) refl (b == 45) refl where
+leading_sign_text : (text : List ℕ) → sign_text (leading_sign text) ≡ take (sign_len text) text
+leading_sign_text [] = refl
+leading_sign_text (b ∷ bs) = by (b == 43) refl (b == 45) refl where
   by : (p : Bool) → (b == 43) ≡ p → (m : Bool) → (b == 45) ≡ m
       → sign_text (cond p Plus (cond m Minus Unsigned)) ≡ take (cond (p || m) 1 0) (b ∷ bs)
   by true e m h =
@@ -80,8 +80,8 @@ front_sign_text (b ∷ bs) = by (b == 43) refl (b == 45) refl where
 exponent_part : (text : List ℕ) → IsExponentPart text
 exponent_part [] = record { exponent = None; formed = refl; written = refl }
 exponent_part (c ∷ cs) = by (is_exponent_letter c) refl (min 3 (prefix_len is_ascii_digit (drop (sign_len cs) cs))) refl where
-  behind : List ℕ
-  behind = drop (sign_len cs) cs
+  after : List ℕ
+  after = drop (sign_len cs) cs
 
   by : (t : Bool) → is_exponent_letter c ≡ t → (n : ℕ) → min 3 (prefix_len is_ascii_digit (drop (sign_len cs) cs)) ≡ n → IsExponentPart (c ∷ cs)
   by false e n k = record {
@@ -101,11 +101,11 @@ exponent_part (c ∷ cs) = by (is_exponent_letter c) refl (min 3 (prefix_len is_
       let some : nat_lt 0 (length digits) ≡ true = grind (arith, nat_tests, run.count) in
       let few : nat_le (length digits) 3 ≡ true = grind (arith, nat_tests, run.count) in
       record {
-        exponent = Some (record { letter = c; sign = front_sign cs; digits = digits });
+        exponent = Some (record { letter = c; sign = leading_sign cs; digits = digits });
         formed = both_true (is_exponent_letter c) (are_exponent_digits digits) e
             (both_true (are_digits digits) (nat_lt 0 (length digits) && nat_le (length digits) 3) run.all
             (both_true (nat_lt 0 (length digits)) (nat_le (length digits) 3) some few));
-        written = ap (λ t. c ∷ (t ++ digits)) (front_sign_text cs)
+        written = ap (λ t. c ∷ (t ++ digits)) (leading_sign_text cs)
             ∙ ap (λ t. c ∷ t) (sym (take-add (sign_len cs) (suc n) cs))
             ∙ sym (ap (λ t. take (cond t (with_letter (sign_len cs) (min 3 (prefix_len is_ascii_digit (drop (sign_len cs) cs)))) 0) (c ∷ cs)) e
             ∙ ap (λ m. take (with_letter (sign_len cs) m) (c ∷ cs)) k);
@@ -137,7 +137,7 @@ number_is_literal byte bytes d =
     let exponent = exponent_part (drop p (drop w text)) in
     let whole = first_digits text w (omega arith) in
     let some : prefix_len is_ascii_digit text ≡ 1 + prefix_len is_ascii_digit bytes = ap (λ t. cond t (1 + prefix_len is_ascii_digit bytes) 0) d in
-    let l : Literal = record { sign = Unsigned; whole = take w text; behind_point = point.digits; exponent = exponent.exponent } in
+    let l : Literal = record { sign = Unsigned; whole = take w text; after_point = point.digits; exponent = exponent.exponent } in
     let written : text_of_literal l ≡ take (w + p + e) text =
     ap (λ t. take w text ++ t ++ exponent_text exponent.exponent) point.written
     ∙ ap (λ t. take w text ++ take p (drop w text) ++ t) exponent.written
@@ -148,11 +148,11 @@ number_is_literal byte bytes d =
       written = written;
       whole = whole.all;
       some = omega (arith, whole.count, some);
-      behind_point = point.all;
+      after_point = point.all;
       exponent = exponent.formed;
     })
 
--- ---- no longer text at the front is one
+-- ---- no longer text at the start is one
 run_least : (digits rest : List ℕ) → are_digits digits ≡ true → length digits ≤ prefix_len is_ascii_digit (digits ++ rest)
 run_least [] rest h = omega arith
 run_least (c ∷ cs) rest h =
@@ -210,23 +210,23 @@ letter_no_digit c cs h =
     let point : (c == 46) ≡ false = grind (arith, nat_tests) in
     (ap (λ t. cond t (1 + prefix_len is_ascii_digit cs) 0) digit, ap (λ t. cond t (with_point (prefix_len is_ascii_digit cs)) 0) point)
 
--- the parts of the literal at the front, at least
-parts_least : (text behind rest : List ℕ) (w p e : ℕ) → prefix_len is_ascii_digit text ≡ w → drop w text ≡ behind
-    → point_len behind ≡ p → drop p behind ≡ rest → e ≤ exponent_len rest → w + p + e ≤ literal_len text
-parts_least text behind rest w p e a b c d least = whole (prefix_len is_ascii_digit text) a where
+-- the parts of the literal at the start, at least
+parts_least : (text after rest : List ℕ) (w p e : ℕ) → prefix_len is_ascii_digit text ≡ w → drop w text ≡ after
+    → point_len after ≡ p → drop p after ≡ rest → e ≤ exponent_len rest → w + p + e ≤ literal_len text
+parts_least text after rest w p e a b c d least = whole (prefix_len is_ascii_digit text) a where
   whole : (n : ℕ) → n ≡ w → w + p + e ≤ n + point_len (drop n text) + exponent_len (drop (point_len (drop n text)) (drop n text))
   whole n h =
       let same : n + point_len (drop n text) + exponent_len (drop (point_len (drop n text)) (drop n text)) ≡ w + p + exponent_len rest =
       ap (λ m. m + point_len (drop m text) + exponent_len (drop (point_len (drop m text)) (drop m text))) h
       ∙ ap (λ t. w + point_len t + exponent_len (drop (point_len t) t)) b
-      ∙ ap (λ m. w + m + exponent_len (drop m behind)) c
+      ∙ ap (λ m. w + m + exponent_len (drop m after)) c
       ∙ ap (λ t. w + p + exponent_len t) d in
       omega (arith, same, least)
 
-point_parts_least : (text behind : List ℕ) (w p : ℕ) → prefix_len is_ascii_digit text ≡ w → drop w text ≡ behind
-    → p ≤ point_len behind → w + p ≤ literal_len text
-point_parts_least text behind w p a b least =
-    let all = parts_least text behind (drop (point_len behind) behind) w (point_len behind) 0 a b refl refl (omega arith) in
+point_parts_least : (text after : List ℕ) (w p : ℕ) → prefix_len is_ascii_digit text ≡ w → drop w text ≡ after
+    → p ≤ point_len after → w + p ≤ literal_len text
+point_parts_least text after w p a b least =
+    let all = parts_least text after (drop (point_len after) after) w (point_len after) 0 a b refl refl (omega arith) in
     omega (arith, all)
 
 digits_least : (text : List ℕ) (w : ℕ) → w ≤ prefix_len is_ascii_digit text → w ≤ literal_len text
@@ -240,39 +240,39 @@ literal_least whole [] rest None a b f =
     let all = digits_least (whole ++ rest) (length whole) (run_least whole rest a) in
     omega (arith, all)
 literal_least whole (d ∷ ds) rest None a b f =
-    let behind = 46 ∷ ((d ∷ ds) ++ rest) in
+    let after = 46 ∷ ((d ∷ ds) ++ rest) in
     let run = run_least (d ∷ ds) rest b in
     let point = with_point_least (prefix_len is_ascii_digit ((d ∷ ds) ++ rest)) (omega (arith, run)) in
-    let all = point_parts_least (whole ++ behind) behind (length whole) (suc (length (d ∷ ds)))
-    (run_whole is_ascii_digit whole behind a refl) (drop-append_seam whole behind) (omega (arith, point, run)) in
+    let all = point_parts_least (whole ++ after) after (length whole) (suc (length (d ∷ ds)))
+    (run_whole is_ascii_digit whole after a refl) (drop-append_seam whole after) (omega (arith, point, run)) in
     omega (arith, all)
 literal_least whole [] rest (Some e) a b f =
     let letter = (cut_true (is_exponent_letter e.letter) (are_exponent_digits e.digits) f).0 in
-    let behind = exponent_text (Some e) ++ rest in
+    let after = exponent_text (Some e) ++ rest in
     let none = letter_no_digit e.letter ((sign_text e.sign ++ e.digits) ++ rest) letter in
-    let all = parts_least (whole ++ behind) behind behind (length whole) 0 (length (exponent_text (Some e)))
-    (run_whole is_ascii_digit whole behind a none.0) (drop-append_seam whole behind) none.1 refl (exponent_least e rest f) in
+    let all = parts_least (whole ++ after) after after (length whole) 0 (length (exponent_text (Some e)))
+    (run_whole is_ascii_digit whole after a none.0) (drop-append_seam whole after) none.1 refl (exponent_least e rest f) in
     omega (arith, all)
 literal_least whole (d ∷ ds) rest (Some e) a b f =
     let letter = (cut_true (is_exponent_letter e.letter) (are_exponent_digits e.digits) f).0 in
     let last = exponent_text (Some e) ++ rest in
-    let behind = 46 ∷ ((d ∷ ds) ++ last) in
+    let after = 46 ∷ ((d ∷ ds) ++ last) in
     let none = letter_no_digit e.letter ((sign_text e.sign ++ e.digits) ++ rest) letter in
     let run : prefix_len is_ascii_digit ((d ∷ ds) ++ last) ≡ length (d ∷ ds) = run_whole is_ascii_digit (d ∷ ds) last b none.0 in
-    let all = parts_least (whole ++ behind) behind last (length whole) (suc (length (d ∷ ds))) (length (exponent_text (Some e)))
-    (run_whole is_ascii_digit whole behind a refl) (drop-append_seam whole behind) (ap with_point run) (drop-append_seam (46 ∷ d ∷ ds) last) (exponent_least e rest f) in
+    let all = parts_least (whole ++ after) after last (length whole) (suc (length (d ∷ ds))) (length (exponent_text (Some e)))
+    (run_whole is_ascii_digit whole after a refl) (drop-append_seam whole after) (ap with_point run) (drop-append_seam (46 ∷ d ∷ ds) last) (exponent_least e rest f) in
     omega (arith, all)
 
 spelt_least : (text rest : List ℕ) (l : Literal) → Spells text l → l.sign ≡ Unsigned → length text ≤ literal_len (text ++ rest)
 spelt_least text rest l h u =
-    let written : (l.whole ++ point_text l.behind_point) ++ exponent_text l.exponent ≡ text =
-    ap (λ s. sign_text s ++ l.whole ++ point_text l.behind_point ++ exponent_text l.exponent) (sym u) ∙ h.written in
-    let least = literal_least l.whole l.behind_point rest l.exponent h.whole h.behind_point h.exponent in
-    let count : length text ≡ length l.whole + length (point_text l.behind_point) + length (exponent_text l.exponent) =
-    ap length (sym written) ∙ length-append (l.whole ++ point_text l.behind_point) (exponent_text l.exponent)
-    ∙ ap (λ n. n + length (exponent_text l.exponent)) (length-append l.whole (point_text l.behind_point)) in
-    let same : literal_len (text ++ rest) ≡ literal_len (l.whole ++ (point_text l.behind_point ++ (exponent_text l.exponent ++ rest))) =
-    ap (λ t. literal_len (t ++ rest)) (sym written) ∙ ap literal_len (regroup l.whole (point_text l.behind_point) (exponent_text l.exponent) rest) in
+    let written : (l.whole ++ point_text l.after_point) ++ exponent_text l.exponent ≡ text =
+    ap (λ s. sign_text s ++ l.whole ++ point_text l.after_point ++ exponent_text l.exponent) (sym u) ∙ h.written in
+    let least = literal_least l.whole l.after_point rest l.exponent h.whole h.after_point h.exponent in
+    let count : length text ≡ length l.whole + length (point_text l.after_point) + length (exponent_text l.exponent) =
+    ap length (sym written) ∙ length-append (l.whole ++ point_text l.after_point) (exponent_text l.exponent)
+    ∙ ap (λ n. n + length (exponent_text l.exponent)) (length-append l.whole (point_text l.after_point)) in
+    let same : literal_len (text ++ rest) ≡ literal_len (l.whole ++ (point_text l.after_point ++ (exponent_text l.exponent ++ rest))) =
+    ap (λ t. literal_len (t ++ rest)) (sym written) ∙ ap literal_len (regroup l.whole (point_text l.after_point) (exponent_text l.exponent) rest) in
     omega (arith, least, count, same) where
       regroup : (x y z r : List ℕ) → ((x ++ y) ++ z) ++ r ≡ x ++ (y ++ (z ++ r))
       regroup x y z r = simp append_assoc
@@ -284,10 +284,10 @@ number_is_longest byte bytes (suc n) d within h = by (literal_of (byte ∷ take 
   by : (o : Option Literal) → literal_of (byte ∷ take n bytes) ≡ o → IsSome o → suc n ≤ literal_len (byte ∷ bytes)
   by None e k = absurd (cc)
   by (Some l) e k =
-      let front = byte ∷ take n bytes in
+      let prefix = byte ∷ take n bytes in
       let rest = drop n bytes in
-      let unsigned = sign_kept (front_sign front) (behind_sign front) l e ∙ digit_no_sign byte (take n bytes) d in
-      let least = spelt_least front rest l (read_spelt front l e) unsigned in
-      let whole : front ++ rest ≡ byte ∷ bytes = ap (λ t. byte ∷ t) (take-append-drop n bytes) in
-      let same : literal_len (front ++ rest) ≡ literal_len (byte ∷ bytes) = ap literal_len whole in
+      let unsigned = sign_kept (leading_sign prefix) (after_sign prefix) l e ∙ digit_no_sign byte (take n bytes) d in
+      let least = spelt_least prefix rest l (read_spelt prefix l e) unsigned in
+      let whole : prefix ++ rest ≡ byte ∷ bytes = ap (λ t. byte ∷ t) (take-append-drop n bytes) in
+      let same : literal_len (prefix ++ rest) ≡ literal_len (byte ∷ bytes) = ap literal_len whole in
       omega (arith, least, same, within, length-take {A = ℕ} n bytes)

@@ -6,15 +6,15 @@ use Rattle.std.proofs.lemmas.List.Splits.{length-slice_split, join_with_byte-sli
 use Rattle.formula_ast.specs.Names.{begins_name, goes_on_name, is_plain_name, are_name_parts, is_name}
 use Rattle.formula_ast.specs.Padded.{IsPadded}
 
--- bytes written over the front of 49 zeros
-pub padded_front : (bytes front : List ℕ) → length bytes ≤ 49 → front ≡ bytes →
-    IsPadded (record { text = front ++ drop {A = ℕ} (length bytes) (replicate 49 0); len = length bytes })
-padded_front bytes front fits e =
+-- bytes written over the start of 49 zeros
+pub padded_prefix : (bytes prefix : List ℕ) → length bytes ≤ 49 → prefix ≡ bytes →
+    IsPadded (record { text = prefix ++ drop {A = ℕ} (length bytes) (replicate 49 0); len = length bytes })
+padded_prefix bytes prefix fits e =
     let n : ℕ = length bytes in
-    let behind : drop {A = ℕ} n (replicate 49 0) ≡ replicate (49 - n) 0 = drop-replicate n 49 0 in
+    let after : drop {A = ℕ} n (replicate 49 0) ≡ replicate (49 - n) 0 = drop-replicate n 49 0 in
     let self : n ≤ length bytes = omega arith in
     let whole : take n (bytes ++ replicate (49 - n) 0) ≡ bytes = rw (take-append-le n bytes (replicate (49 - n) 0) self) (take_all n bytes self) in
-    rw (e, behind) (record {
+    rw (e, after) (record {
       fits = fits;
       whole = omega (arith, length-append bytes (replicate (49 - n) 0), length-replicate {A = ℕ} (49 - n) 0);
       zeros = ap (λ t. t ++ replicate (49 - n) 0) (sym whole);
@@ -25,13 +25,13 @@ other_part plain column [] h = absurd (omega arith)
 other_part plain column (other ∷ others) h = refl
 
 -- a text with two points is no name
-pub two_points : (text plain column rest behind : List ℕ) →
+pub two_points : (text plain column rest after : List ℕ) →
     slice_split (λ byte. byte == 46) text ≡ plain ∷ slice_split (λ byte. byte == 46) rest →
-    slice_split (λ byte. byte == 46) rest ≡ column ∷ slice_split (λ byte. byte == 46) behind → is_name text ≡ false
-two_points text plain column rest behind e f =
+    slice_split (λ byte. byte == 46) rest ≡ column ∷ slice_split (λ byte. byte == 46) after → is_name text ≡ false
+two_points text plain column rest after e f =
     ap are_name_parts (e ∙ ap (λ parts. plain ∷ parts) f)
-    ∙ other_part plain column (slice_split (λ byte. byte == 46) behind)
-    (omega (arith, length-slice_split (λ byte. byte == 46) behind))
+    ∙ other_part plain column (slice_split (λ byte. byte == 46) after)
+    (omega (arith, length-slice_split (λ byte. byte == 46) after))
 
 -- names are short
 both_true : (a b : Bool) → (a && b) ≡ true → (a ≡ true) × (b ≡ true)

@@ -276,7 +276,7 @@ finish_fits (AtEnd b left x []) h based = subst (λ d. Fits d (put writings left
 finish_fits (AtEnd b left x (w ∷ o)) h based = tt
 finish_fits (AtExponent l x minus o) h based = tt
 
--- ---- backward: a stage behind which it fits, and its token is not refused
+-- ---- backward: a stage after which it fits, and its token is not refused
 pub record Passed (w : Stage Written) (k : Kind) : Type 0 where
   pub fits : FitsStage w
   pub word : (at : ℕ) → word_fault w at k false ≡ None

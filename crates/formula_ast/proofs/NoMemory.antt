@@ -1,4 +1,4 @@
--- What a text is read as is no want of memory.
+-- What a text is read as is never out of memory.
 use Rattle.std.proofs.Common.{◌≢◌, ℕ, ◌+◌, Bool, true, false, cond, List, [], ◌∷◌, Option, None, Some, Result, Ok, Err, subst}
 use Rattle.formula_ast.specs.Trees.{Tree}
 use Rattle.formula_ast.specs.Tokens.{Token, tokens}

@@ -1,4 +1,4 @@
--- The text of a number is one token, whatever stands behind it but a letter, a digit, `_` or a point; and a
+-- The text of a number is one token, whatever stands after it but a letter, a digit, `_` or a point; and a
 -- number that was read is an unsigned bound.
 use Rattle.std.specs.Prelude.{◌≡◌, ℕ, zero, suc, ◌+◌, ◌*◌, ◌/◌, ◌%◌, ◌^◌, ◌<◌, ◌==◌, Bool, true, false, cond, nat_lt, ℤ, pos, unsigned_abs, int_div, List, [], ◌∷◌, ◌++◌, length, drop, decimal, Option, None, Some, option_map, refl}
 use Rattle.std.proofs.Common.{sym, ap, subst, ◌∙◌, arith, append_assoc, length-append}
@@ -13,8 +13,8 @@ use Rattle.std.specs.Char.{is_ascii_digit}
 use Rattle.std.specs.Str.Parse.{digits_value}
 use Rattle.decimal18.specs.Bound.{Bound, scaled, canonical, IsBound, IsCanonical}
 use Rattle.decimal18.specs.Digits.{signed}
-use Rattle.decimal18.specs.Text.{last_digits, sign_of, behind_point, text_of}
-use Rattle.decimal18.specs.Literal.{Sign, Unsigned, Exponent, Literal, is_minus, raised, lowered, are_digits, is_exponent_letter, front_digits, behind_digits, front_point, behind_front_point, front_sign, behind_sign, exponent_of, unsigned_literal, literal_of, exact_of, is_bound, as_bound, in_range, read, parsed}
+use Rattle.decimal18.specs.Text.{last_digits, sign_of, after_point, text_of}
+use Rattle.decimal18.specs.Literal.{Sign, Unsigned, Exponent, Literal, is_minus, raised, lowered, are_digits, is_exponent_letter, leading_digits, after_digits, leading_point, after_leading_point, leading_sign, after_sign, exponent_of, unsigned_literal, literal_of, exact_of, is_bound, as_bound, in_range, read, parsed}
 use Rattle.decimal18.proofs.Canonical.{IsReduced-canonical}
 use Rattle.decimal18.proofs.LiteralDigits.{numerals, cut_true, both_true}
 use Rattle.formula_ast.specs.Tokens.{goes_on_run, with_point, point_len, exponent_len, literal_len, bound_in, is_glued}
@@ -26,7 +26,7 @@ pub record IsPrintable (q : Bound) : Type 0 where
   pub size : ℕ
   pub unsigned : q.coefficient ≡ pos size
 
--- ---- what stands behind a token that is not glued
+-- ---- what stands after a token that is not glued
 pub run_whole : (p : ℕ → Bool) (xs rest : List ℕ) → list_all p xs ≡ true → prefix_len p rest ≡ 0 → prefix_len p (xs ++ rest) ≡ length xs
 run_whole p [] rest all none = none
 run_whole p (x ∷ xs) rest all none =
@@ -70,11 +70,11 @@ length_last zero n = refl
 length_last (suc p) n =
     length-append (last_digits p (n / 10)) ((48 + n % 10) ∷ []) ∙ ap (λ k. k + 1) (length_last p (n / 10)) ∙ omega arith
 
-behind_digit : (p n : ℕ) (rest : List ℕ) → is_glued rest ≡ false → prefix_len is_ascii_digit (behind_point p n ++ rest) ≡ 0
-behind_digit zero n rest h = no_digit rest h
-behind_digit (suc p) n rest h = refl
+after_digit : (p n : ℕ) (rest : List ℕ) → is_glued rest ≡ false → prefix_len is_ascii_digit (after_point p n ++ rest) ≡ 0
+after_digit zero n rest h = no_digit rest h
+after_digit (suc p) n rest h = refl
 
-point_whole : (p n : ℕ) (rest : List ℕ) → is_glued rest ≡ false → point_len (behind_point p n ++ rest) ≡ length (behind_point p n)
+point_whole : (p n : ℕ) (rest : List ℕ) → is_glued rest ≡ false → point_len (after_point p n ++ rest) ≡ length (after_point p n)
 point_whole zero n rest h = no_point rest h
 point_whole (suc p) n rest h =
     ap with_point (run_whole is_ascii_digit (last_digits (suc p) n) rest (last_are_digits (suc p) n) (no_digit rest h))
@@ -83,31 +83,31 @@ point_whole (suc p) n rest h =
       some zero few = absurd (omega arith)
       some (suc k) few = refl
 
-literal_parts : (text behind rest : List ℕ) (w p : ℕ) → prefix_len is_ascii_digit text ≡ w → drop w text ≡ behind
-    → point_len behind ≡ p → drop p behind ≡ rest → exponent_len rest ≡ 0 → literal_len text ≡ w + p
-literal_parts text behind rest w p a b c d e = whole (prefix_len is_ascii_digit text) a where
+literal_parts : (text after rest : List ℕ) (w p : ℕ) → prefix_len is_ascii_digit text ≡ w → drop w text ≡ after
+    → point_len after ≡ p → drop p after ≡ rest → exponent_len rest ≡ 0 → literal_len text ≡ w + p
+literal_parts text after rest w p a b c d e = whole (prefix_len is_ascii_digit text) a where
   whole : (n : ℕ) → n ≡ w → n + point_len (drop n text) + exponent_len (drop (point_len (drop n text)) (drop n text)) ≡ w + p
   whole n h =
       ap (λ m. m + point_len (drop m text) + exponent_len (drop (point_len (drop m text)) (drop m text))) h
       ∙ ap (λ t. w + point_len t + exponent_len (drop (point_len t) t)) b
-      ∙ ap (λ m. w + m + exponent_len (drop m behind)) c
+      ∙ ap (λ m. w + m + exponent_len (drop m after)) c
       ∙ ap (λ t. w + p + exponent_len t) d
       ∙ ap (λ m. w + p + m) e
       ∙ omega arith
 
--- digits, and what stands behind the point
+-- digits, and what stands after the point
 pub numeral_len : (whole : List ℕ) (p n : ℕ) (rest : List ℕ) → are_digits whole ≡ true → is_glued rest ≡ false
-    → literal_len ((whole ++ behind_point p n) ++ rest) ≡ length (whole ++ behind_point p n)
+    → literal_len ((whole ++ after_point p n) ++ rest) ≡ length (whole ++ after_point p n)
 numeral_len whole p n rest digits h =
-    let behind = behind_point p n ++ rest in
-    ap literal_len (append_assoc whole (behind_point p n) rest)
-    ∙ literal_parts (whole ++ behind) behind rest (length whole) (length (behind_point p n))
-    (run_whole is_ascii_digit whole behind digits (behind_digit p n rest h))
-    (drop-append_seam whole behind)
+    let after = after_point p n ++ rest in
+    ap literal_len (append_assoc whole (after_point p n) rest)
+    ∙ literal_parts (whole ++ after) after rest (length whole) (length (after_point p n))
+    (run_whole is_ascii_digit whole after digits (after_digit p n rest h))
+    (drop-append_seam whole after)
     (point_whole p n rest h)
-    (drop-append_seam (behind_point p n) rest)
+    (drop-append_seam (after_point p n) rest)
     (no_exponent rest h)
-    ∙ sym (length-append whole (behind_point p n))
+    ∙ sym (length-append whole (after_point p n))
 
 -- the text begins with a digit
 abbrev pub starts_digit : List ℕ → Bool
@@ -118,16 +118,16 @@ starts : (xs rest : List ℕ) → are_digits xs ≡ true → 0 < length xs → s
 starts [] rest all some = absurd (omega arith)
 starts (c ∷ cs) rest all some = (cut_true (is_ascii_digit c) (are_digits cs) all).0
 
--- the text of an unsigned number is the literal at the front
+-- the text of an unsigned number is the literal at the start
 pub record IsNumeral (w : List ℕ) : Type 0 where
   pub begins : starts_digit w ≡ true
   pub whole : (rest : List ℕ) → is_glued rest ≡ false → literal_len (w ++ rest) ≡ length w
 
-whole_numeral : (n p size : ℕ) → n < 2 ^ 64 → IsNumeral (decimal n ++ behind_point p size)
+whole_numeral : (n p size : ℕ) → n < 2 ^ 64 → IsNumeral (decimal n ++ after_point p size)
 whole_numeral n p size small =
     let digits : are_digits (decimal n) ≡ true = digits_decimal numerals n small in
     record {
-      begins = starts (decimal n) (behind_point p size) digits (decimal_nonempty n small);
+      begins = starts (decimal n) (after_point p size) digits (decimal_nonempty n small);
       whole = λ rest h. numeral_len (decimal n) p size rest digits h;
     }
 
@@ -135,12 +135,12 @@ pub decimal_numeral : (n : ℕ) → n < 2 ^ 64 → IsNumeral (decimal n)
 decimal_numeral n small =
     let digits : are_digits (decimal n) ≡ true = digits_decimal numerals n small in
     subst IsNumeral (nothing (decimal n)) (whole_numeral n 0 0 small) where
-      nothing : (xs : List ℕ) → xs ++ behind_point 0 0 ≡ xs
+      nothing : (xs : List ℕ) → xs ++ after_point 0 0 ≡ xs
       nothing xs = append-nil xs
 
-text_unsigned : (q : Bound) (n : ℕ) → q.coefficient ≡ pos n → decimal (n / 10 ^ q.places) ++ behind_point q.places n ≡ text_of q
+text_unsigned : (q : Bound) (n : ℕ) → q.coefficient ≡ pos n → decimal (n / 10 ^ q.places) ++ after_point q.places n ≡ text_of q
 text_unsigned q n e =
-    ap (λ c. sign_of c ++ decimal (unsigned_abs c / 10 ^ q.places) ++ behind_point q.places (unsigned_abs c)) (sym e)
+    ap (λ c. sign_of c ++ decimal (unsigned_abs c / 10 ^ q.places) ++ after_point q.places (unsigned_abs c)) (sym e)
 
 pub text_numeral : (q : Bound) → IsPrintable q → IsNumeral (text_of q)
 text_numeral q h =
@@ -150,14 +150,14 @@ text_numeral q h =
 
 -- ---- a number that was read
 pub sign_kept : (sign : Sign) (text : List ℕ) (l : Literal) → unsigned_literal sign text ≡ Some l → l.sign ≡ sign
-sign_kept sign text l h = by (nat_lt 0 (prefix_len is_ascii_digit text)) (exponent_of (behind_front_point (behind_digits text))) h where
+sign_kept sign text l h = by (nat_lt 0 (prefix_len is_ascii_digit text)) (exponent_of (after_leading_point (after_digits text))) h where
   by : (t : Bool) (o : Option (Option Exponent))
-      → cond t (option_map (λ e. record { sign = sign; whole = front_digits text; behind_point = front_point (behind_digits text); exponent = e }) o) None ≡ Some l
+      → cond t (option_map (λ e. record { sign = sign; whole = leading_digits text; after_point = leading_point (after_digits text); exponent = e }) o) None ≡ Some l
       → l.sign ≡ sign
   by false o e = absurd (cc)
   by true None e = absurd (cc)
   by true (Some x) e =
-      let same : record { sign = sign; whole = front_digits text; behind_point = front_point (behind_digits text); exponent = x } ≡ l = cc in
+      let same : record { sign = sign; whole = leading_digits text; after_point = leading_point (after_digits text); exponent = x } ≡ l = cc in
       ap (λ y. y.sign) (sym same)
 
 abbrev IsWhole : ℤ → Type 0
@@ -188,7 +188,7 @@ bound_printable n p q h = by (is_bound (canonical (pos n) p)) refl h where
         unsigned = whole.1;
       })
 
-pub digit_no_sign : (c : ℕ) (cs : List ℕ) → is_ascii_digit c ≡ true → front_sign (c ∷ cs) ≡ Unsigned
+pub digit_no_sign : (c : ℕ) (cs : List ℕ) → is_ascii_digit c ≡ true → leading_sign (c ∷ cs) ≡ Unsigned
 digit_no_sign c cs h =
     let plus : (c == 43) ≡ false = grind (arith, nat_tests) in
     let minus : (c == 45) ≡ false = grind (arith, nat_tests) in
@@ -198,8 +198,8 @@ literal_printable : (text : List ℕ) (o : Option Literal) (q : Bound) → ((l :
     → bound_in (read o) ≡ Some q → IsPrintable q
 literal_printable text None q sign h = absurd (cc)
 literal_printable text (Some l) q sign h =
-    let n = digits_value 10 (l.whole ++ l.behind_point) * 10 ^ raised l.exponent in
-    let p = length l.behind_point + lowered l.exponent in
+    let n = digits_value 10 (l.whole ++ l.after_point) * 10 ^ raised l.exponent in
+    let p = length l.after_point + lowered l.exponent in
     let exact : exact_of l ≡ scaled (pos n) p = ap (λ s. scaled (signed (is_minus s) n) p) (sign l refl) in
     bound_printable n p q (some_of (as_bound (scaled (pos n) p)) (ap (λ x. bound_in (in_range (as_bound x))) (sym exact) ∙ h)) where
       some_of : (o : Option Bound) → bound_in (in_range o) ≡ Some q → o ≡ Some q
@@ -211,7 +211,7 @@ pub read_printable : (c : ℕ) (cs : List ℕ) (q : Bound) → is_ascii_digit c 
 unfolding parsed
 read_printable c cs q d h =
     literal_printable (c ∷ cs) (literal_of (c ∷ cs)) q
-    (λ l e. sign_kept (front_sign (c ∷ cs)) (behind_sign (c ∷ cs)) l e ∙ digit_no_sign c cs d) h
+    (λ l e. sign_kept (leading_sign (c ∷ cs)) (after_sign (c ∷ cs)) l e ∙ digit_no_sign c cs d) h
 
 pub empty_none : bound_in (parsed []) ≡ None
 unfolding parsed

@@ -51,10 +51,10 @@ words_drop [] (suc skip) = refl
 words_drop (byte ∷ bytes) zero = refl
 words_drop (byte ∷ bytes) (suc skip) = words_drop bytes skip
 
--- ---- the token at the front
-front_words : (c : ℕ) (cs rest : List ℕ) (k : Kind) → is_blank c ≡ false → len_of (c ∷ (cs ++ rest)) ≡ suc (length cs)
+-- ---- the token at the start
+first_words : (c : ℕ) (cs rest : List ℕ) (k : Kind) → is_blank c ≡ false → len_of (c ∷ (cs ++ rest)) ≡ suc (length cs)
     → kind_of (c ∷ (cs ++ rest)) ≡ k → words (c ∷ (cs ++ rest)) 0 ≡ k ∷ words rest 0
-front_words c cs rest k blank len kind =
+first_words c cs rest k blank len kind =
     let less : len_of (c ∷ (cs ++ rest)) - 1 ≡ length cs = omega (arith, len) in
     ap (λ t. cond t (words (cs ++ rest) 0) (kind_of (c ∷ (cs ++ rest)) ∷ words (cs ++ rest) (len_of (c ∷ (cs ++ rest)) - 1))) blank
     ∙ ap (λ j. j ∷ words (cs ++ rest) (len_of (c ∷ (cs ++ rest)) - 1)) kind
@@ -62,9 +62,9 @@ front_words c cs rest k blank len kind =
     ∙ ap (λ ks. k ∷ ks) (words_drop (cs ++ rest) (length cs) ∙ ap (λ t. words t 0) (drop-append_seam cs rest))
 
 -- a number
-number_front : (c : ℕ) (cs rest : List ℕ) → is_ascii_digit c ≡ true → literal_len (c ∷ (cs ++ rest)) ≡ suc (length cs) → is_glued rest ≡ false
+number_first : (c : ℕ) (cs rest : List ℕ) → is_ascii_digit c ≡ true → literal_len (c ∷ (cs ++ rest)) ≡ suc (length cs) → is_glued rest ≡ false
     → words (c ∷ (cs ++ rest)) 0 ≡ NumberToken (bound_in (parsed (c ∷ cs))) (power_of (c ∷ cs)) ∷ words rest 0
-number_front c cs rest d whole h =
+number_first c cs rest d whole h =
     let blank : is_blank c ≡ false = grind (arith, nat_tests) in
     let len : len_of (c ∷ (cs ++ rest)) ≡ suc (length cs) =
     ap (λ t. cond t (literal_len (c ∷ (cs ++ rest))) (cond (begins_name c) (prefix_len goes_on_run (c ∷ (cs ++ rest))) 1)) d ∙ whole in
@@ -75,14 +75,14 @@ number_front c cs rest d whole h =
     ∙ ap (λ l. number_kind l (drop (suc (length cs)) text)) (take-append_seam (c ∷ cs) rest)
     ∙ ap (λ r. number_kind (c ∷ cs) r) (drop-append_seam (c ∷ cs) rest)
     ∙ ap (λ t. cond t Glued (NumberToken (bound_in (parsed (c ∷ cs))) (power_of (c ∷ cs)))) h in
-    front_words c cs rest (NumberToken (bound_in (parsed (c ∷ cs))) (power_of (c ∷ cs))) blank len kind
+    first_words c cs rest (NumberToken (bound_in (parsed (c ∷ cs))) (power_of (c ∷ cs))) blank len kind
 
 number_words : (w rest : List ℕ) → IsNumeral w → is_glued rest ≡ false
     → words (w ++ rest) 0 ≡ NumberToken (bound_in (parsed w)) (power_of w) ∷ words rest 0
 number_words [] rest n h =
     let no : false ≡ true = n.begins in
     absurd (cc)
-number_words (c ∷ cs) rest n h = number_front c cs rest n.begins (n.whole rest h) h
+number_words (c ∷ cs) rest n h = number_first c cs rest n.begins (n.whole rest h) h
 
 -- a name
 pub record IsNameToken (n : List ℕ) : Type 0 where
@@ -96,9 +96,9 @@ abbrev starts_name : List ℕ → Bool
 starts_name [] = false
 starts_name (c ∷ cs) = begins_name c
 
-name_front : (c : ℕ) (cs rest : List ℕ) → begins_name c ≡ true → IsNameToken (c ∷ cs) → is_glued rest ≡ false
+name_first : (c : ℕ) (cs rest : List ℕ) → begins_name c ≡ true → IsNameToken (c ∷ cs) → is_glued rest ≡ false
     → words (c ∷ (cs ++ rest)) 0 ≡ Name (c ∷ cs) ∷ words rest 0
-name_front c cs rest b n h =
+name_first c cs rest b n h =
     let blank : is_blank c ≡ false = grind (arith, nat_tests) in
     let digit : is_ascii_digit c ≡ false = grind (arith, nat_tests) in
     let text = c ∷ (cs ++ rest) in
@@ -112,11 +112,11 @@ name_front c cs rest b n h =
     ∙ ap (λ m. name_kind (take m text)) len
     ∙ ap name_kind (take-append_seam (c ∷ cs) rest)
     ∙ ap (λ t. cond t (Name (c ∷ cs)) Wrong) n.named in
-    front_words c cs rest (Name (c ∷ cs)) blank len kind
+    first_words c cs rest (Name (c ∷ cs)) blank len kind
 
 name_words : (w rest : List ℕ) → starts_name w ≡ true → IsNameToken w → is_glued rest ≡ false → words (w ++ rest) 0 ≡ Name w ∷ words rest 0
 name_words [] rest b n h = absurd (cc)
-name_words (c ∷ cs) rest b n h = name_front c cs rest b n h
+name_words (c ∷ cs) rest b n h = name_first c cs rest b n h
 
 -- ---- formulas that may be read: unsigned bounds, names, exponents from 1 to 9
 pub record IsNamed (n : List ℕ) : Type 0 where

@@ -1,27 +1,27 @@
--- The reading of a text from its front: what holds in front of each token, and behind the last.
+-- The reading of a text from its start: what holds before each token, and after the last.
 use Rattle.std.proofs.Common.{◌≡◌, ℕ, zero, suc, ◌+◌, ◌-◌, ◌<◌, ◌≤◌, ◌==◌, ◌&&◌, Bool, true, false, cond, nat_le, List, [], ◌∷◌, length, drop, refl, sym, ◌∙◌, ap, subst, arith, Option, None, Some, Result, Err}
 use Rattle.std.proofs.lemmas.Bool.Decides.{nat_tests}
 use Rattle.formula_ast.specs.Trees.{Tree}
 use Rattle.formula_ast.specs.Tokens.{tokens, len_of, kind_of}
 use Rattle.formula_ast.specs.Machine.{Stage, AtOperand, AtAtom, AtEnd, AtExponent, trees, step, first_stage}
 use Rattle.formula_ast.specs.Reading.{most_nodes, or_else, word_fault, is_too_deep, is_node, node_count, refusal, unless_refused, goes_on, syntax_place, opens_next, reading, reading_of}
-use Rattle.formula_ast.specs.Fronts.{IsTight, IsPassed, IsFront}
+use Rattle.formula_ast.specs.FirstTokens.{IsTight, IsPassed, IsFirstToken}
 use Rattle.formula_ast.specs.Answers.{Fails}
-use Rattle.formula_ast.proofs.FrontTokens.{tokens_skip}
+use Rattle.formula_ast.proofs.FirstTokenSteps.{tokens_skip}
 use Rattle.formula_ast.specs.declared.token.Sign.TheVariants.{Plus, Minus, Times, Over}
 use Rattle.formula_ast.specs.declared.token.Kind.{Kind}
 use Rattle.formula_ast.specs.declared.token.Kind.TheVariants.{Number, Name, Joins, Hat, Open, Close, Glued, Wrong}
 use Rattle.formula_ast.specs.declared.fault.FormulaFault.{FormulaFault}
 use Rattle.formula_ast.specs.declared.fault.FormulaFault.TheVariants as fault
 
--- the reading has come to `rest`, at a stage, behind so many nodes and a token that ends at `end`
+-- the reading has come to `rest`, at a stage, after so many nodes and a token that ends at `end`
 pub record IsAt (text rest : List ℕ) (s : Stage Tree) (nodes end : ℕ) : Type 0 where
   pub within : length rest ≤ length text
   pub tight : IsTight rest
   pub few : nodes ≤ 256
   pub read : reading s nodes end (tokens rest 0 (length text - length rest)) ≡ reading_of text
 
--- ---- a rule behind the grammar is broken only where the grammar goes on
+-- ---- a rule beyond the grammar is broken only where the grammar goes on
 unruled : (s : Stage Tree) (n at : ℕ) (k : Kind) (opens : Bool) → step trees s k ≡ None → refusal s n at k opens ≡ None
 unruled (AtOperand l o) n at (Number value power) opens h = absurd (cc)
 unruled (AtOperand l o) n at (Name name) opens h = absurd (cc)
@@ -68,42 +68,42 @@ goes_on_some : (t : Option (Stage Tree)) (s : Stage Tree) (place : ℕ) (r : Opt
     t ≡ Some s → r ≡ None → goes_on t place r next ≡ next s
 goes_on_some t s place r next e h = rw (e, h) refl
 
--- ---- the tokens of a text behind that at its front
-front_tokens : (text behind : List ℕ) (len : ℕ) (kind : Kind) (at : ℕ) → 0 < length text → IsTight text → IsFront text len kind behind →
-    tokens text 0 at ≡ record { place = at; kind = kind; len = len } ∷ tokens behind 0 (at + (length text - length behind))
-front_tokens [] behind len kind at some tight f = absurd (omega arith)
-front_tokens (byte ∷ bytes) behind len kind at some tight f =
+-- ---- the tokens of a text after that at its start
+first_tokens : (text after : List ℕ) (len : ℕ) (kind : Kind) (at : ℕ) → 0 < length text → IsTight text → IsFirstToken text len kind after →
+    tokens text 0 at ≡ record { place = at; kind = kind; len = len } ∷ tokens after 0 (at + (length text - length after))
+first_tokens [] after len kind at some tight f = absurd (omega arith)
+first_tokens (byte ∷ bytes) after len kind at some tight f =
     let n : ℕ = len_of (byte ∷ bytes) in
     let long : len ≡ n = f.long in
     let pos : 0 < len = f.positive in
     let one : len ≡ suc (n - 1) = omega arith in
-    let same : tokens (drop (suc (n - 1)) (byte ∷ bytes)) 0 (at + len) ≡ tokens behind 0 (at + len + (length (byte ∷ bytes) - len - length behind)) =
-    subst (λ k. tokens (drop k (byte ∷ bytes)) 0 (at + len) ≡ tokens behind 0 (at + len + (length (byte ∷ bytes) - len - length behind))) one (f.same (at + len)) in
+    let same : tokens (drop (suc (n - 1)) (byte ∷ bytes)) 0 (at + len) ≡ tokens after 0 (at + len + (length (byte ∷ bytes) - len - length after)) =
+    subst (λ k. tokens (drop k (byte ∷ bytes)) 0 (at + len) ≡ tokens after 0 (at + len + (length (byte ∷ bytes) - len - length after))) one (f.same (at + len)) in
     let here : at + 1 + (n - 1) ≡ at + len = omega arith in
-    let there : at + len + (length (byte ∷ bytes) - len - length behind) ≡ at + (length (byte ∷ bytes) - length behind) = omega (arith, f.within) in
-    let rest : tokens bytes (n - 1) (at + 1) ≡ tokens behind 0 (at + (length (byte ∷ bytes) - length behind)) =
-    tokens_skip bytes (n - 1) (at + 1) ∙ ap (tokens (drop (n - 1) bytes) 0) here ∙ same ∙ ap (tokens behind 0) there in
+    let there : at + len + (length (byte ∷ bytes) - len - length after) ≡ at + (length (byte ∷ bytes) - length after) = omega (arith, f.within) in
+    let rest : tokens bytes (n - 1) (at + 1) ≡ tokens after 0 (at + (length (byte ∷ bytes) - length after)) =
+    tokens_skip bytes (n - 1) (at + 1) ∙ ap (tokens (drop (n - 1) bytes) 0) here ∙ same ∙ ap (tokens after 0) there in
     rw tight (rw (f.is, long) (ap (λ ts. record { place = at; kind = kind_of (byte ∷ bytes); len = n } ∷ ts) rest))
 
 -- the reading of such a text
-reading_front : (text rest behind : List ℕ) (s : Stage Tree) (nodes end len : ℕ) (kind : Kind) → IsAt text rest s nodes end → 0 < length rest →
-    IsFront rest len kind behind → reading_of text
+reading_first : (text rest after : List ℕ) (s : Stage Tree) (nodes end len : ℕ) (kind : Kind) → IsAt text rest s nodes end → 0 < length rest →
+    IsFirstToken rest len kind after → reading_of text
     ≡ goes_on (step trees s kind) (syntax_place s (length text - length rest) len kind)
-    (refusal s nodes (length text - length rest) kind (opens_next (tokens behind 0 (length text - length behind))))
-    (λ next. reading next (nodes + node_count s kind) (length text - length rest + len) (tokens behind 0 (length text - length behind)))
-reading_front text rest behind s nodes end len kind a some f =
+    (refusal s nodes (length text - length rest) kind (opens_next (tokens after 0 (length text - length after))))
+    (λ next. reading next (nodes + node_count s kind) (length text - length rest + len) (tokens after 0 (length text - length after)))
+reading_first text rest after s nodes end len kind a some f =
     let at : ℕ = length text - length rest in
-    let there : at + (length rest - length behind) ≡ length text - length behind = omega (arith, a.within, f.within) in
-    sym a.read ∙ ap (reading s nodes end) (front_tokens rest behind len kind at some a.tight f
-    ∙ ap (λ place. record { place = at; kind = kind; len = len } ∷ tokens behind 0 place) there)
+    let there : at + (length rest - length after) ≡ length text - length after = omega (arith, a.within, f.within) in
+    sym a.read ∙ ap (reading s nodes end) (first_tokens rest after len kind at some a.tight f
+    ∙ ap (λ place. record { place = at; kind = kind; len = len } ∷ tokens after 0 place) there)
 
 -- ---- the ways on from a token
-pub read_ruled : (text rest behind : List ℕ) (s : Stage Tree) (nodes end len : ℕ) (kind : Kind) (opens : Bool) (f : FormulaFault) →
-    IsAt text rest s nodes end → 0 < length rest → IsFront rest len kind behind →
-    opens ≡ opens_next (tokens behind 0 (length text - length behind)) →
+pub read_ruled : (text rest after : List ℕ) (s : Stage Tree) (nodes end len : ℕ) (kind : Kind) (opens : Bool) (f : FormulaFault) →
+    IsAt text rest s nodes end → 0 < length rest → IsFirstToken rest len kind after →
+    opens ≡ opens_next (tokens after 0 (length text - length after)) →
     Some f ≡ refusal s nodes (length text - length rest) kind opens → reading_of text ≡ Err f
-read_ruled text rest behind s nodes end len kind opens f a some front o r =
-    reading_front text rest behind s nodes end len kind a some front
+read_ruled text rest after s nodes end len kind opens f a some first o r =
+    reading_first text rest after s nodes end len kind a some first
     ∙ goes_on_ruled (step trees s kind) _ _ _ f (sym (r ∙ ap (refusal s nodes (length text - length rest) kind) o))
     (unruled s nodes (length text - length rest) kind _)
 
@@ -120,16 +120,16 @@ pub few_more : (s : Stage Tree) (nodes at : ℕ) (kind : Kind) (opens : Bool) �
 few_more s nodes at kind opens r few =
     few_by (word_fault s at kind opens) (is_too_deep s kind) (is_node s kind) (fault.TooDeep at) (fault.TooMany at) nodes (sym r) few
 
-pub read_more : (text rest behind : List ℕ) (s t : Stage Tree) (nodes end len : ℕ) (kind : Kind) (opens : Bool) →
-    IsAt text rest s nodes end → 0 < length rest → IsFront rest len kind behind → IsTight behind →
-    opens ≡ opens_next (tokens behind 0 (length text - length behind)) →
+pub read_more : (text rest after : List ℕ) (s t : Stage Tree) (nodes end len : ℕ) (kind : Kind) (opens : Bool) →
+    IsAt text rest s nodes end → 0 < length rest → IsFirstToken rest len kind after → IsTight after →
+    opens ≡ opens_next (tokens after 0 (length text - length after)) →
     None ≡ refusal s nodes (length text - length rest) kind opens → step trees s kind ≡ Some t →
-    IsAt text behind t (nodes + node_count s kind) (length text - length rest + len)
-read_more text rest behind s t nodes end len kind opens a some front tight o r e = record {
-  within = omega (arith, a.within, front.within);
+    IsAt text after t (nodes + node_count s kind) (length text - length rest + len)
+read_more text rest after s t nodes end len kind opens a some first tight o r e = record {
+  within = omega (arith, a.within, first.within);
   tight = tight;
   few = (few_more s nodes (length text - length rest) kind opens r a.few).1;
-  read = sym (reading_front text rest behind s nodes end len kind a some front
+  read = sym (reading_first text rest after s nodes end len kind a some first
       ∙ goes_on_some (step trees s kind) t _ _ _ e (sym (r ∙ ap (refusal s nodes (length text - length rest) kind) o)));
 }
 

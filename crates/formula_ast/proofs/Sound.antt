@@ -132,7 +132,7 @@ after_goes b left x o Open h = tt
 after_goes b left x o Glued h = tt
 after_goes b left x o Wrong h = tt
 
--- behind a factor of rank 2 and more
+-- after a factor of rank 2 and more
 ended_told : (l : Waiting Written) (x : Written) (o : List (Waiting Written))
     → told (AtEnd l.base l.added (factor_done writings l x) o) ≡ told (AtAtom l x o)
 ended_told l x o = ap (λ t. outer_told o ++ (left_told l.added ++ t)) (factor_told l x) ∙ simp append_assoc

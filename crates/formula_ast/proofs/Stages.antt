@@ -1,5 +1,5 @@
--- The stages of the reading and the texts of the grammar: a stage stands behind tokens exactly where a
--- text of the grammar goes on behind them.
+-- The stages of the reading and the texts of the grammar: a stage stands after tokens exactly where a
+-- text of the grammar goes on after them.
 use Rattle.std.specs.Prelude.{◌≡◌, ℕ, List, [], ◌∷◌, ◌++◌, Option, None, Some, refl}
 use Rattle.std.proofs.Common.{◌∙◌}
 use Rattle.formula_ast.specs.Trees.{Tree}
@@ -23,8 +23,8 @@ record Ends {A : Type 0} (m : Parts A) (s : Stage A) : Type 0 where
   ends : run m s more ≡ Some value
 
 module _ {A : Type 0} (m : Parts A) where
-  ends_behind : (k : Kind) (s t : Stage A) → step m s k ≡ Some t → Ends m t → Ends m s
-  ends_behind k s t h e = record {
+  ends_after : (k : Kind) (s t : Stage A) → step m s k ≡ Some t → Ends m t → Ends m s
+  ends_after k s t h e = record {
     more = k ∷ e.more;
     value = e.value;
     ends = then_is (step m s k) t (λ v. run m v e.more) h ∙ e.ends;
@@ -37,25 +37,25 @@ module _ {A : Type 0} (m : Parts A) where
   ends_at_atom [] l x = record { more = []; value = put m l.added (factor_done m l x); ends = refl }
   ends_at_atom (w ∷ o) l x =
       let inside = m.group (put m l.added (factor_done m l x)) in
-      ends_behind Close (AtAtom l x (w ∷ o)) (AtAtom w inside o) refl (ends_at_atom o w inside)
+      ends_after Close (AtAtom l x (w ∷ o)) (AtAtom w inside o) refl (ends_at_atom o w inside)
 
   ends_at_end : (o : List (Waiting A)) (b : ℕ) (left : Option (A × Sign)) (x : A) → Ends m (AtEnd b left x o)
   ends_at_end [] b left x = record { more = []; value = put m left x; ends = refl }
   ends_at_end (w ∷ o) b left x =
       let inside = m.group (put m left x) in
-      ends_behind Close (AtEnd b left x (w ∷ o)) (AtAtom w inside o) refl (ends_at_atom o w inside)
+      ends_after Close (AtEnd b left x (w ∷ o)) (AtAtom w inside o) refl (ends_at_atom o w inside)
 
   stage_ends : (s : Stage A) → Ends m s
   stage_ends (AtOperand l o) =
       let x = m.number None None in
-      ends_behind (Number None None) (AtOperand l o) (AtAtom l x o) refl (ends_at_atom o l x)
+      ends_after (Number None None) (AtOperand l o) (AtAtom l x o) refl (ends_at_atom o l x)
   stage_ends (AtAtom l x o) = ends_at_atom o l x
   stage_ends (AtEnd b left x o) = ends_at_end o b left x
   stage_ends (AtExponent l x minus o) =
       let y = factor_done m l (m.raised x minus None None) in
-      ends_behind (Number None None) (AtExponent l x minus o) (AtEnd l.base l.added y o) refl (ends_at_end o l.base l.added y)
+      ends_after (Number None None) (AtExponent l x minus o) (AtEnd l.base l.added y o) refl (ends_at_end o l.base l.added y)
 
-  -- tokens with a stage behind them, and those behind it
+  -- tokens with a stage after them, and those after it
   then_run : (o : Option (Stage A)) (t : Stage A) (f : Stage A → Option (Stage A)) (g : Stage A → Option A) (y : Option A)
       → ((v : Stage A) → f v ≡ Some t → g v ≡ y) → then_some o f ≡ Some t → then_some o g ≡ y
   then_run None t f g y k h = absurd (cc)
@@ -76,7 +76,7 @@ module _ {A : Type 0} (m : Parts A) where
   no_stage_run (k ∷ ks) s more h =
       then_none (step m s k) (λ v. stages m v ks) (λ v. run m v (ks ++ more)) (λ v. no_stage_run ks v more) h
 
--- where a stage stands behind the tokens, a text of the grammar goes on
+-- where a stage stands after the tokens, a text of the grammar goes on
 pub goes_on_by_stages : (ks : List Kind) (s : Stage Tree) → stages trees first_stage ks ≡ Some s → GoesOn ks
 goes_on_by_stages ks s h =
     let e = stage_ends trees s in

@@ -11,7 +11,7 @@ use Rattle.formula_ast.specs.Trees.{Tree}
 use Rattle.formula_ast.specs.Tokens.{is_blank, goes_on_run, with_point, point_len, sign_len, with_letter, exponent_len, literal_len, len_of, kind_of, Token, tokens, kinds, kinds_in}
 use Rattle.formula_ast.specs.Grammar.{GoesOn}
 use Rattle.formula_ast.specs.Machine.{trees, Stage, AtOperand, AtAtom, AtEnd, AtExponent, factor_done, first_stage, step, finish, then_some, stages}
-use Rattle.formula_ast.specs.Reading.{at_end, unless_refused, goes_on, behind_glued, syntax_place, refusal, opens_next, node_count, reading, reading_of}
+use Rattle.formula_ast.specs.Reading.{at_end, unless_refused, goes_on, after_glued, syntax_place, refusal, opens_next, node_count, reading, reading_of}
 use Rattle.formula_ast.specs.Rules.{written_len, IsFirstWrong}
 use Rattle.formula_ast.specs.declared.fault.FormulaFault.{FormulaFault}
 use Rattle.formula_ast.specs.declared.fault.FormulaFault.TheVariants.{Syntax}
@@ -92,9 +92,9 @@ letter_solid c h = grind (arith, nat_tests)
 exponent_solid : (text : List ℕ) → IsSolid (exponent_len text) text
 exponent_solid [] = no_bytes []
 exponent_solid (c ∷ cs) =
-    let behind = drop (sign_len cs) cs in
-    let digits = fewer behind (prefix_len is_ascii_digit behind) (min 3 (prefix_len is_ascii_digit behind)) (omega arith) (run_solid is_ascii_digit digit_solid behind) in
-    by (is_exponent_letter c) refl (min 3 (prefix_len is_ascii_digit behind)) (then_more cs (sign_len cs) (min 3 (prefix_len is_ascii_digit behind)) (sign_solid cs) digits) where
+    let after = drop (sign_len cs) cs in
+    let digits = fewer after (prefix_len is_ascii_digit after) (min 3 (prefix_len is_ascii_digit after)) (omega arith) (run_solid is_ascii_digit digit_solid after) in
+    by (is_exponent_letter c) refl (min 3 (prefix_len is_ascii_digit after)) (then_more cs (sign_len cs) (min 3 (prefix_len is_ascii_digit after)) (sign_solid cs) digits) where
       by : (t : Bool) → is_exponent_letter c ≡ t → (n : ℕ) → IsSolid (sign_len cs + n) cs → IsSolid (cond t (with_letter (sign_len cs) n) 0) (c ∷ cs)
       by false e n h = no_bytes (c ∷ cs)
       by true e zero h = no_bytes (c ∷ cs)
@@ -104,14 +104,14 @@ literal_solid : (text : List ℕ) → IsSolid (literal_len text) text
 literal_solid text =
     let whole = prefix_len is_ascii_digit text in
     let rest = drop whole text in
-    let behind = point_len rest in
-    let exponent = exponent_len (drop behind rest) in
-    let parts = then_more rest behind exponent (point_solid rest) (exponent_solid (drop behind rest)) in
-    let all = then_more text whole (behind + exponent) (run_solid is_ascii_digit digit_solid text) parts in
-    let count : whole + (behind + exponent) ≡ whole + behind + exponent = omega arith in
+    let after = point_len rest in
+    let exponent = exponent_len (drop after rest) in
+    let parts = then_more rest after exponent (point_solid rest) (exponent_solid (drop after rest)) in
+    let all = then_more text whole (after + exponent) (run_solid is_ascii_digit digit_solid text) parts in
+    let count : whole + (after + exponent) ≡ whole + after + exponent = omega arith in
     subst (λ n. IsSolid n text) count all
 
--- the token at the front has at least one byte, and no blank
+-- the token at the start has at least one byte, and no blank
 record IsTokenLen (n : ℕ) (text : List ℕ) : Type 0 where
   some : 1 ≤ n
   bytes : IsSolid n text
@@ -168,7 +168,7 @@ blank_end end at byte (suc n) b = by (is_blank byte) (suc n == 0) (grind (arith,
   by true false e = omega arith
   by false u e = omega arith
 
--- the end behind a token of n bytes, and what follows it
+-- the end after a token of n bytes, and what follows it
 token_end : (end at n rest total : ℕ) → 1 ≤ n → total ≡ n + rest → end_from (at + n) (at + 1 + (n - 1)) rest ≡ end_from end (at + 0) total
 token_end end at n zero zero some e = absurd (omega arith)
 token_end end at n zero (suc total) some e = omega arith
@@ -195,11 +195,11 @@ tokens_end (byte ∷ bytes) zero at end h =
       by false b blank token =
           let is = len_is byte bytes b in
           let within : len_of (byte ∷ bytes) - 1 ≤ length bytes = omega (arith, is.some, is.bytes.within) in
-          let behind : written_len (drop (len_of (byte ∷ bytes)) (byte ∷ bytes)) ≡ written_len (drop (len_of (byte ∷ bytes) - 1) bytes) =
+          let after : written_len (drop (len_of (byte ∷ bytes)) (byte ∷ bytes)) ≡ written_len (drop (len_of (byte ∷ bytes) - 1) bytes) =
           dropped (len_of (byte ∷ bytes)) is.some in
           token within
           ∙ token_end end at (len_of (byte ∷ bytes)) (written_len (drop (len_of (byte ∷ bytes) - 1) bytes)) (written_len (byte ∷ bytes)) is.some
-          (solid_len (len_of (byte ∷ bytes)) (byte ∷ bytes) is.bytes ∙ ap (λ n. len_of (byte ∷ bytes) + n) behind) where
+          (solid_len (len_of (byte ∷ bytes)) (byte ∷ bytes) is.bytes ∙ ap (λ n. len_of (byte ∷ bytes) + n) after) where
             dropped : (n : ℕ) → 1 ≤ n → written_len (drop n (byte ∷ bytes)) ≡ written_len (drop (n - 1) bytes)
             dropped zero k = absurd (omega arith)
             dropped (suc n) k =
@@ -239,7 +239,7 @@ whole_end text = tokens_end text 0 0 0 (omega arith) ∙ from_start (written_len
   from_start zero = refl
   from_start (suc n) = omega arith
 
--- where a text of the grammar goes on behind the whole text, the place is behind its last token
+-- where a text of the grammar goes on after the whole text, the place is after its last token
 pub syntax_at_end : (text : List ℕ) (at : ℕ) → reading_of text ≡ Err (Syntax at) → GoesOn (kinds_in text) → at ≡ written_len text
 unfolding reading_of
 syntax_at_end text at h g = by (stages trees first_stage (kinds_in text)) refl where
@@ -251,9 +251,9 @@ syntax_at_end text at h g = by (stages trees first_stage (kinds_in text)) refl w
 record WrongToken (s : Stage Tree) (ts : List Token) (at : ℕ) : Type 0 where
   before : List Token
   token : Token
-  behind : List Token
+  after : List Token
   stage : Stage Tree
-  parts : before ++ token ∷ behind ≡ ts
+  parts : before ++ token ∷ after ≡ ts
   passed : stages trees s (kinds before) ≡ Some stage
   stops : step trees stage token.kind ≡ None
   place : at ≡ syntax_place stage token.place token.len token.kind
@@ -266,7 +266,7 @@ then_wrong : (o : Option (Stage Tree)) (s : Stage Tree) (t : Token) (ts : List T
 then_wrong None s t ts at r next e ruled all h k = record {
   before = [];
   token = t;
-  behind = ts;
+  after = ts;
   stage = s;
   parts = refl;
   passed = refl;
@@ -278,7 +278,7 @@ then_wrong (Some v) s t ts at None next e ruled all h k =
     record {
       before = t ∷ w.before;
       token = w.token;
-      behind = w.behind;
+      after = w.after;
       stage = w.stage;
       parts = ap (λ us. t ∷ us) w.parts;
       passed = ap (λ o. then_some o (λ u. stages trees u (kinds w.before))) e ∙ w.passed;
@@ -317,12 +317,12 @@ kinds_last (u ∷ ts) t = ap (λ ks. u.kind ∷ ks) (kinds_last ts t)
 
 glued_place : (s : Stage Tree) (place len : ℕ) (k : Kind) → k ≡ Glued → (step trees s (Number None None) ≡ None → ⊥)
     → syntax_place s place len k ≡ place + len
-glued_place (AtOperand l o) place len k e h = ap (λ j. place + behind_glued j len) e
+glued_place (AtOperand l o) place len k e h = ap (λ j. place + after_glued j len) e
 glued_place (AtAtom l x o) place len k e h = absurd (h refl)
 glued_place (AtEnd b left x o) place len k e h = absurd (h refl)
-glued_place (AtExponent l x minus o) place len k e h = ap (λ j. place + behind_glued j len) e
+glued_place (AtExponent l x minus o) place len k e h = ap (λ j. place + after_glued j len) e
 
-not_glued : (place len : ℕ) (k : Kind) → (k ≡ Glued → ⊥) → place + behind_glued k len ≡ place
+not_glued : (place len : ℕ) (k : Kind) → (k ≡ Glued → ⊥) → place + after_glued k len ≡ place
 not_glued place len Glued h = absurd (h refl)
 not_glued place len (Number value power) h = omega arith
 not_glued place len (Name name) h = omega arith
@@ -352,7 +352,7 @@ syntax_at_token text at h none = by (stages trees first_stage (kinds_in text)) r
       record {
         before = w.before;
         token = w.token;
-        behind = w.behind;
+        after = w.after;
         parts = w.parts;
         goes_on = goes_on_by_stages ks w.stage w.passed;
         stops = no_stage_no_text (kinds (w.before ++ w.token ∷ []))

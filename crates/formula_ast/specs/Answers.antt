@@ -1,4 +1,4 @@
--- What the reader answers, beside what a text is by the definitions: any answer may be a want of memory.
+-- What the reader answers, beside what a text is by the definitions: any answer may be out of memory.
 use Rattle.std.specs.Prelude.{◌≡◌, Result, Ok, Err}
 use Rattle.formula_ast.specs.Trees.{Tree}
 use Rattle.formula_ast.specs.Views.{tree_of}
@@ -15,7 +15,7 @@ Fails (BadPower at) r = r ≡ Err (BadPower at)
 Fails (TooDeep at) r = r ≡ Err (TooDeep at)
 Fails (TooMany at) r = r ≡ Err (TooMany at)
 
--- the answer is what the text is by the definitions, or a want of memory
+-- the answer is what the text is by the definitions, or out of memory
 abbrev pub Gives : Result Formula FormulaFault → Result Tree FormulaFault → Type 0
 Gives (Ok f) r = r ≡ Ok (tree_of f)
 Gives (Err fault) r = Fails fault r

@@ -97,7 +97,7 @@ pub record Spells (ks : List Kind) (f : Tree) : Type 0 where
 abbrev pub SpellsText : List ℕ → Tree → Type 0
 SpellsText text f = Spells (kinds_in text) f
 
--- a text of the grammar goes on with more tokens behind these
+-- a text of the grammar goes on with more tokens after these
 pub record GoesOn (ks : List Kind) : Type 0 where
   pub more : List Kind
   pub formula : Tree

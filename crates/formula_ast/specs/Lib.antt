@@ -9,6 +9,6 @@ pub mod Printing
 pub mod Views
 pub mod Answers
 pub mod Rules
-pub mod Fronts
+pub mod FirstTokens
 pub mod States
 pub mod NewNames

@@ -40,15 +40,15 @@ writings = record {
 }
 
 -- what waits inside one pair of parentheses: the left operand of a sum and that of a product, each with
--- its sign, and the number of minuses in front of the factor; and the nesting outside
+-- its sign, and the number of minuses before the factor; and the nesting outside
 pub record Waiting (A : Type 0) : Type 0 where
   pub added : Option (A × Sign)
   pub multiplied : Option (A × Sign)
   pub minuses : ℕ
   pub base : ℕ
 
--- what may come next, with what waits here and outside: an operand; behind an atom, `^` or what may follow
--- a power; behind a factor, what may follow it; an exponent, behind its minus or not
+-- what may come next, with what waits here and outside: an operand; after an atom, `^` or what may follow
+-- a power; after a factor, what may follow it; an exponent, after its minus or not
 pub data Stage (A : Type 0) : Type 0 where
   AtOperand : Waiting A → List (Waiting A) → Stage A
   AtAtom : Waiting A → A → List (Waiting A) → Stage A
@@ -74,7 +74,7 @@ fresh b = record { added = None; multiplied = None; minuses = 0; base = b }
 abbrev pub first_stage : {A : Type 0} → Stage A
 first_stage = AtOperand (fresh 0) []
 
--- behind `+` or `-`, and behind `*` or `/`
+-- after `+` or `-`, and after `*` or `/`
 abbrev pub adding : {A : Type 0} → ℕ → A → Sign → List (Waiting A) → Stage A
 adding b x s o = AtOperand (record { added = Some (x, s); multiplied = None; minuses = 0; base = b }) o
 
@@ -91,7 +91,7 @@ signed_on m b left x o Minus = adding b (put m left x) Minus o
 signed_on m b left x o Times = multiplying b left x Times o
 signed_on m b left x o Over = multiplying b left x Over o
 
--- behind a factor; None where nothing of the grammar goes on so
+-- after a factor; None where nothing of the grammar goes on so
 abbrev pub after : {A : Type 0} → Parts A → ℕ → Option (A × Sign) → A → List (Waiting A) → Kind → Option (Stage A)
 after m b left x o (Joins s) = Some (signed_on m b left x o s)
 after m b left x o Close = closed (m.group (put m left x)) o
@@ -105,7 +105,7 @@ after m b left x o Wrong = None
 abbrev pub minused : {A : Type 0} → Waiting A → Waiting A
 minused l = record { added = l.added; multiplied = l.multiplied; minuses = suc l.minuses; base = l.base }
 
--- one more minus in front, and nothing of the grammar for another sign
+-- one more minus before it, and nothing of the grammar for another sign
 abbrev pub prefixed : {A : Type 0} → Waiting A → List (Waiting A) → Sign → Option (Stage A)
 prefixed l o Minus = Some (AtOperand (minused l) o)
 prefixed l o Plus = None
@@ -119,7 +119,7 @@ exponent_minus l x minus o Plus = None
 exponent_minus l x minus o Times = None
 exponent_minus l x minus o Over = None
 
--- the stage behind the token; None where no text of the grammar goes on with it
+-- the stage after the token; None where no text of the grammar goes on with it
 abbrev pub step : {A : Type 0} → Parts A → Stage A → Kind → Option (Stage A)
 step m (AtOperand l o) (Number value power) = Some (AtAtom l (m.number value power) o)
 step m (AtOperand l o) (Name name) = Some (AtAtom l (m.variable name) o)
@@ -161,7 +161,7 @@ abbrev pub then_some : {A B : Type 0} → Option A → (A → Option B) → Opti
 then_some None next = None
 then_some (Some x) next = next x
 
--- the stage behind tokens, and what they give where the text ends behind them
+-- the stage after tokens, and what they give where the text ends after them
 abbrev pub stages : {A : Type 0} → Parts A → Stage A → List Kind → Option (Stage A)
 stages m s [] = Some s
 stages m s (k ∷ ks) = then_some (step m s k) (λ t. stages m t ks)

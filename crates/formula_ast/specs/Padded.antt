@@ -1,4 +1,4 @@
--- A text of at most 49 bytes at the front of 49 bytes, with zeros behind it.
+-- A text of at most 49 bytes at the start of 49 bytes, with zeros after it.
 use Rattle.std.specs.Prelude.{◌≡◌, ℕ, ◌-◌, ◌≤◌, List, ◌++◌, length, take, replicate}
 use Rattle.std.proofs.Common.{ap, sym, arith}
 use Rattle.std.proofs.lemmas.List.{length-take}

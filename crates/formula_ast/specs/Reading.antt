@@ -20,7 +20,7 @@ abbrev pub most_nodes : ℕ
 most_nodes = 256
 
 -- ---- the rules at one token, all of them false where the grammar does not go on with it
--- 2 to 4: a name in front of a parenthesis, an operand that is no bound, an exponent that is not from 1 to 9
+-- 2 to 4: a name before a parenthesis, an operand that is no bound, an exponent that is not from 1 to 9
 abbrev pub operand_fault : Kind → ℕ → Bool → Option FormulaFault
 operand_fault (Name name) at opens = cond opens (Some (UnknownFunction at)) None
 operand_fault (NumberToken None power) at opens = Some (Number NumberRange at)
@@ -117,7 +117,7 @@ abbrev pub or_else : {A : Type 0} → Option A → Option A → Option A
 or_else None other = other
 or_else (Some x) other = Some x
 
--- the first rule behind the grammar that the token breaks, in front of which so many nodes stand
+-- the first rule beyond the grammar that the token breaks, before which so many nodes stand
 abbrev pub refusal : {A : Type 0} → Stage A → ℕ → ℕ → Kind → Bool → Option FormulaFault
 refusal s nodes at k opens =
     or_else (word_fault s at k opens)
@@ -125,22 +125,22 @@ refusal s nodes at k opens =
     (cond (is_node s k && nat_le most_nodes nodes) (Some (TooMany at)) None))
 
 -- ---- the place of a token with which the grammar does not go on
--- a number may stand here, and the byte behind it is wrong
-abbrev pub behind_glued : Kind → ℕ → ℕ
-behind_glued Glued len = len
-behind_glued (NumberToken value power) len = 0
-behind_glued (Name name) len = 0
-behind_glued (Joins s) len = 0
-behind_glued Hat len = 0
-behind_glued Open len = 0
-behind_glued Close len = 0
-behind_glued Wrong len = 0
+-- a number may stand here, and the byte after it is wrong
+abbrev pub after_glued : Kind → ℕ → ℕ
+after_glued Glued len = len
+after_glued (NumberToken value power) len = 0
+after_glued (Name name) len = 0
+after_glued (Joins s) len = 0
+after_glued Hat len = 0
+after_glued Open len = 0
+after_glued Close len = 0
+after_glued Wrong len = 0
 
 abbrev pub syntax_place : {A : Type 0} → Stage A → ℕ → ℕ → Kind → ℕ
-syntax_place (AtOperand l o) at len k = at + behind_glued k len
+syntax_place (AtOperand l o) at len k = at + after_glued k len
 syntax_place (AtAtom l x o) at len k = at
 syntax_place (AtEnd b left x o) at len k = at
-syntax_place (AtExponent l x minus o) at len k = at + behind_glued k len
+syntax_place (AtExponent l x minus o) at len k = at + after_glued k len
 
 -- ---- the reading
 abbrev pub is_open : Kind → Bool
@@ -158,7 +158,7 @@ abbrev pub opens_next : List Token → Bool
 opens_next [] = false
 opens_next (t ∷ ts) = is_open t.kind
 
--- at the end of the text: its place is that behind the last token
+-- at the end of the text: its place is that after the last token
 abbrev pub at_end : Option Tree → ℕ → Result Tree FormulaFault
 at_end None end = Err (Syntax end)
 at_end (Some f) end = Ok f
@@ -174,7 +174,7 @@ goes_on (Some s) place refused next = unless_refused refused (next s)
 abbrev pub node_count : {A : Type 0} → Stage A → Kind → ℕ
 node_count s k = cond (is_node s k) 1 0
 
--- the reading of tokens at a stage, behind so many nodes and behind the place `end`
+-- the reading of tokens at a stage, after so many nodes and after the place `end`
 abbrev pub reading : Stage Tree → ℕ → ℕ → List Token → Result Tree FormulaFault
 reading s nodes end [] = at_end (finish trees s) end
 reading s nodes end (t ∷ ts) =

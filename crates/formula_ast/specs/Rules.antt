@@ -9,7 +9,7 @@ use Rattle.formula_ast.specs.declared.token.Kind.TheVariants.{Number as NumberTo
 use Rattle.formula_ast.specs.declared.fault.FormulaFault.{FormulaFault}
 use Rattle.formula_ast.specs.declared.fault.FormulaFault.TheVariants.{Syntax, UnknownFunction, Number, BadPower, TooDeep, TooMany, OutOfMemory}
 
--- a text that spells f is read as f, or one of the rules behind the grammar refuses it
+-- a text that spells f is read as f, or one of the rules beyond the grammar refuses it
 abbrev pub IsReadOrRuled : Result Tree FormulaFault → Tree → Type 0
 IsReadOrRuled (Ok g) f = g ≡ f
 IsReadOrRuled (Err (Syntax at)) f = ⊥
@@ -57,17 +57,17 @@ abbrev pub written_len : List ℕ → ℕ
 written_len [] = 0
 written_len (byte ∷ bytes) = cond (is_blank byte && written_len bytes == 0) 0 (suc (written_len bytes))
 
--- a text of the grammar goes on behind these tokens with a number
+-- a text of the grammar goes on after these tokens with a number
 abbrev pub MayBeNumber : List Kind → Type 0
 MayBeNumber ks = GoesOn (ks ++ NumberToken None None ∷ [])
 
--- the place of the first token with which no text of the grammar goes on; or the place behind it, where a
--- number may stand there and it is one with a letter, a digit, `_` or a point directly behind it
+-- the place of the first token with which no text of the grammar goes on; or the place after it, where a
+-- number may stand there and it is one with a letter, a digit, `_` or a point directly after it
 pub record IsFirstWrong (text : List ℕ) (at : ℕ) : Type 0 where
   pub before : List Token
   pub token : Token
-  pub behind : List Token
-  pub parts : before ++ token ∷ behind ≡ tokens text 0 0
+  pub after : List Token
+  pub parts : before ++ token ∷ after ≡ tokens text 0 0
   pub goes_on : GoesOn (kinds before)
   pub stops : GoesOn (kinds (before ++ token ∷ [])) → ⊥
   pub at_glued : token.kind ≡ Glued → MayBeNumber (kinds before) → at ≡ token.place + token.len

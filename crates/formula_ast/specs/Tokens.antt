@@ -18,8 +18,8 @@ is_blank byte = byte == 32 || byte == 9
 abbrev pub goes_on_run : ℕ → Bool
 goes_on_run byte = goes_on_name byte || byte == 46
 
--- ---- the length of the literal at the front
--- a point and the digits behind it, and 0 where there is no point or no digit behind it
+-- ---- the length of the literal at the start
+-- a point and the digits after it, and 0 where there is no point or no digit after it
 abbrev pub with_point : ℕ → ℕ
 with_point zero = 0
 with_point (suc digits) = suc (suc digits)
@@ -44,14 +44,14 @@ exponent_len (byte ∷ bytes) =
     cond (is_exponent_letter byte)
     (with_letter (sign_len bytes) (min 3 (prefix_len is_ascii_digit (drop (sign_len bytes) bytes)))) 0
 
--- the longest unsigned literal at the front of a text that begins with a digit
+-- the longest unsigned literal at the start of a text that begins with a digit
 abbrev pub literal_len : List ℕ → ℕ
 literal_len text =
     let whole = prefix_len is_ascii_digit text in
-    let behind = point_len (drop whole text) in
-    whole + behind + exponent_len (drop behind (drop whole text))
+    let after = point_len (drop whole text) in
+    whole + after + exponent_len (drop after (drop whole text))
 
--- ---- the token at the front
+-- ---- the token at the start
 abbrev pub bound_in : Result Bound NumFault → Option Bound
 bound_in (Ok b) = Some b
 bound_in (Err fault) = None
@@ -68,7 +68,7 @@ is_glued [] = false
 is_glued (byte ∷ bytes) = goes_on_run byte
 
 abbrev pub number_kind : List ℕ → List ℕ → Kind
-number_kind literal behind = cond (is_glued behind) Glued (Number (bound_in (parsed literal)) (power_of literal))
+number_kind literal after = cond (is_glued after) Glued (Number (bound_in (parsed literal)) (power_of literal))
 
 abbrev pub name_kind : List ℕ → Kind
 name_kind run = cond (is_name run) (Name run) Wrong

@@ -17,7 +17,7 @@ ghost use Rattle.formula_ast.specs.declared.fault.FormulaFault.TheVariants.{Synt
 ghost use Rattle.formula_ast.specs.declared.token.Kind.{Kind};
 ghost use Rattle.formula_ast.specs.declared.token.Sign.TheVariants.{Plus, Minus, Times, Over};
 
-/// What is read as a formula spells it, what spells a formula is read as it unless a rule behind the
+/// What is read as a formula spells it, what spells a formula is read as it unless a rule beyond the
 /// grammar refuses it, no tokens spell two formulas, and none are written in two ways.
 pub fn reading_is_the_grammars()
     ensures spelt { (text : List ℕ) (f : Tree) → reading_of text ≡ Ok f → SpellsText text f }
@@ -48,7 +48,7 @@ pub fn what_spells_within_limits_is_read()
     ensures { (text : List ℕ) (f : Tree) → (reading_of text ≡ Ok f) ↔ IsFormula text f }
 {}
 
-/// The place of a refusal as `Syntax`. Where a text of the grammar goes on behind the whole text, it is the
+/// The place of a refusal as `Syntax`. Where a text of the grammar goes on after the whole text, it is the
 /// text's length without its last blanks, and elsewhere that of the first token with which none goes on.
 pub fn syntax_is_placed_at_the_first_wrong_token()
     ensures end { (text : List ℕ) (at : ℕ) → reading_of text ≡ Err (Syntax at) → GoesOn (kinds_in text) → at ≡ written_len text }
@@ -60,12 +60,12 @@ pub fn what_is_read_has_exponents()
     ensures { (text : List ℕ) (f : Tree) → reading_of text ≡ Ok f → HasExponents f }
 {}
 
-/// What a text is read as is the formula or a refusal of a token, and no want of memory.
-pub fn reading_is_never_a_want_of_memory()
+/// What a text is read as is the formula or a refusal of a token, and never out of memory.
+pub fn reading_is_never_out_of_memory()
     ensures { (text : List ℕ) → reading_of text ≢ Err OutOfMemory }
 {}
 
-/// The number at the front of a text that begins with a digit is the longest literal there.
+/// The number at the start of a text that begins with a digit is the longest literal there.
 pub fn number_tokens_are_longest_literals()
     ensures literal { (byte : ℕ) (bytes : List ℕ) → is_ascii_digit byte ≡ true
         → IsSome (literal_of (take (literal_len (byte ∷ bytes)) (byte ∷ bytes))) }

@@ -1,4 +1,4 @@
-//! The tokens of a text, one by one: what stands at its front, and the rest.
+//! The tokens of a text, one by one: what stands at its start, and the rest.
 
 ghost use Rattle.std.specs.Prelude.{◌≡◌, ◌<◌, ◌≤◌, ℕ, length, drop};
 ghost use Rattle.std.specs.List.{prefix_len};
@@ -6,7 +6,7 @@ ghost use Rattle.std.specs.Char.{is_ascii_digit};
 ghost use Rattle.decimal18.specs.Literal.{parsed};
 ghost use Rattle.formula_ast.specs.Reading.{opens_next};
 ghost use Rattle.formula_ast.specs.Tokens.{is_blank, goes_on_run, point_len, sign_len, exponent_len, literal_len, power_of, is_glued, bound_in, number_kind, name_kind, mark_kind, len_of, kind_of, tokens};
-ghost use Rattle.formula_ast.specs.Fronts.{IsFront, IsTight, IsSmall, IsPassed};
+ghost use Rattle.formula_ast.specs.FirstTokens.{IsFirstToken, IsTight, IsSmall, IsPassed};
 
 use crate::name::{Name, begins_name, goes_on_name};
 use crate::token::{Kind, Sign};
@@ -36,7 +36,7 @@ fn goes_on_run(byte: u8) -> bool
     goes_on_name(byte) || byte == b'.'
 }
 
-/// The number of blanks at the front.
+/// The number of blanks at the start.
 pub fn blanks_len(text: &[u8]) -> usize
     ensures is { result ≡ prefix_len is_blank text.now }
     ensures within { result ≤ length text.now }
@@ -49,7 +49,7 @@ pub fn blanks_len(text: &[u8]) -> usize
     text.len()
 }
 
-/// The number of digits at the front.
+/// The number of digits at the start.
 fn digits_len(text: &[u8]) -> usize
     ensures is { result ≡ prefix_len is_ascii_digit text.now }
     ensures within { result ≤ length text.now }
@@ -62,7 +62,7 @@ fn digits_len(text: &[u8]) -> usize
     text.len()
 }
 
-/// The length of the run of letters, digits, `_` and points at the front.
+/// The length of the run of letters, digits, `_` and points at the start.
 fn run_len(text: &[u8]) -> usize
     ensures is { result ≡ prefix_len goes_on_run text.now }
     ensures within { result ≤ length text.now }
@@ -75,15 +75,15 @@ fn run_len(text: &[u8]) -> usize
     text.len()
 }
 
-/// The length of a point and the digits behind it; 0 where there is no point or no digit behind it.
+/// The length of a point and the digits after it; 0 where there is no point or no digit after it.
 fn point_len(text: &[u8]) -> usize
     ensures is { result ≡ point_len text.now }
     ensures within { result ≤ length text.now }
 {
-    let [b'.', behind @ ..] = text else {
+    let [b'.', after @ ..] = text else {
         return 0;
     };
-    let digits = digits_len(behind);
+    let digits = digits_len(after);
     if digits == 0 {
         return 0;
     }
@@ -107,21 +107,21 @@ fn exponent_len(text: &[u8]) -> usize
     ensures is { result ≡ exponent_len text.now }
     ensures within { result ≤ length text.now }
 {
-    let [letter, behind @ ..] = text else {
+    let [letter, after @ ..] = text else {
         return 0;
     };
     if *letter != b'e' && *letter != b'E' {
         return 0;
     }
-    let sign = sign_len(behind);
-    let digits = digits_len(&behind[sign..]);
+    let sign = sign_len(after);
+    let digits = digits_len(&after[sign..]);
     if digits == 0 {
         return 0;
     }
     1 + sign + digits.min(EXPONENT_DIGITS)
 }
 
-/// The length of the longest unsigned literal at the front of a text that begins with a digit.
+/// The length of the longest unsigned literal at the start of a text that begins with a digit.
 fn literal_len(text: &[u8]) -> usize
     ensures is { result ≡ literal_len text.now }
     ensures within { result ≤ length text.now }
@@ -133,10 +133,10 @@ fn literal_len(text: &[u8]) -> usize
 }
 
 /// Whether a literal is directly followed by a byte that may not follow it.
-fn is_glued(behind: &[u8]) -> bool
-    ensures { result ≡ is_glued behind.now }
+fn is_glued(after: &[u8]) -> bool
+    ensures { result ≡ is_glued after.now }
 {
-    let [byte, ..] = behind else {
+    let [byte, ..] = after else {
         return false;
     };
     goes_on_run(*byte)
@@ -162,11 +162,11 @@ fn bound_of(literal: &[u8]) -> Option<Dec>
     }
 }
 
-/// What a literal is, with this text behind it.
-fn number_kind(literal: &[u8], behind: &[u8]) -> Kind
-    ensures { result ≡ number_kind literal.now behind.now }
+/// What a literal is, with this text after it.
+fn number_kind(literal: &[u8], after: &[u8]) -> Kind
+    ensures { result ≡ number_kind literal.now after.now }
 {
-    if is_glued(behind) {
+    if is_glued(after) {
         return Kind::Glued;
     }
     Kind::Number(bound_of(literal), power_of(literal))
@@ -198,8 +198,8 @@ fn mark_kind(byte: u8) -> Kind
     }
 }
 
-/// The token that stands at the front.
-fn token_at_front(text: &[u8]) -> Token
+/// The token that stands at the start.
+fn first_token(text: &[u8]) -> Token
     requires { 0 < length text.now }
     ensures len { result.len ≡ len_of text.now }
     ensures kind { result.kind ≡ kind_of text.now }
@@ -222,32 +222,32 @@ fn token_at_front(text: &[u8]) -> Token
     }
 }
 
-/// The text behind so many bytes.
-fn behind(text: &[u8], len: usize) -> &[u8]
+/// The text after so many bytes.
+fn after(text: &[u8], len: usize) -> &[u8]
     requires { len ≤ length text.now }
     ensures { result.now ≡ drop len text.now }
 {
     &text[len..]
 }
 
-/// The text behind the blanks at its front.
+/// The text after the blanks at its start.
 pub fn skip_blanks(text: &[u8]) -> &[u8]
     ensures { IsPassed text.now result.now }
 {
-    behind(text, blanks_len(text))
+    after(text, blanks_len(text))
 }
 
-/// The token at the front of a text that begins with one, and the text behind it and the blanks that
+/// The token at the start of a text that begins with one, and the text after it and the blanks that
 /// follow it.
-pub fn front(text: &[u8]) -> (Token, &[u8])
+pub fn split_token(text: &[u8]) -> (Token, &[u8])
     requires some { 0 < length text.now }
     requires tight { IsTight text.now }
-    ensures front { IsFront text.now result.0.len result.0.kind result.1.now }
+    ensures first { IsFirstToken text.now result.0.len result.0.kind result.1.now }
     ensures tight { IsTight result.1.now }
     ensures small { IsSmall result.0.kind }
 {
-    let token = token_at_front(text);
-    (token, skip_blanks(behind(text, token.len)))
+    let token = first_token(text);
+    (token, skip_blanks(after(text, token.len)))
 }
 
 /// Whether the text begins with an open parenthesis.

@@ -22,10 +22,10 @@ pub use decimal18::OutOfMemory;
 pub use fault::FormulaFault;
 pub use formula::Formula;
 pub use laws::{
-    number_tokens_are_longest_literals, printed_text_is_read_again,
-    reading_is_never_a_want_of_memory, reading_is_the_grammars,
-    stages_are_the_prefixes_of_the_grammar, syntax_is_placed_at_the_first_wrong_token,
-    what_is_read_has_exponents, what_spells_within_limits_is_read, worked_formulas,
+    number_tokens_are_longest_literals, printed_text_is_read_again, reading_is_never_out_of_memory,
+    reading_is_the_grammars, stages_are_the_prefixes_of_the_grammar,
+    syntax_is_placed_at_the_first_wrong_token, what_is_read_has_exponents,
+    what_spells_within_limits_is_read, worked_formulas,
 };
 pub use lexer::{blanks_len, is_blank};
 pub use name::{Name, is_plain_name};

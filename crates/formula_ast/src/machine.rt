@@ -1,11 +1,11 @@
-//! The reading of tokens, one by one: what waits for its right operand, and the step behind a token.
+//! The reading of tokens, one by one: what waits for its right operand, and the step after a token.
 
 ghost use Rattle.std.specs.Prelude.{◌≡◌, ◌+◌, ◌<◌, ◌≤◌, false, List, [], ◌∷◌, Option, Some, None, IfSome, IfOk, option_map};
 ghost use Rattle.formula_ast.specs.Trees.{Tree, Joined, Number, Variable};
 ghost use Rattle.formula_ast.specs.Grammar.{number_of, exponent_of};
 ghost use Rattle.formula_ast.specs.Machine.{Waiting, Stage, AtOperand, AtAtom, AtExponent, trees, fresh, minused, first_stage, put, negated, signed_on, closed, after, step, finish};
 ghost use Rattle.formula_ast.specs.Reading.{is_too_deep};
-ghost use Rattle.formula_ast.specs.Fronts.{IsSmall};
+ghost use Rattle.formula_ast.specs.FirstTokens.{IsSmall};
 ghost use Rattle.formula_ast.specs.Views.{tree_of};
 ghost use Rattle.formula_ast.specs.States.{left_of, waiting_of, outside, stage_on, stage_of};
 
@@ -23,7 +23,7 @@ pub struct Left {
 }
 
 /// What waits inside one pair of parentheses: the left operand of a sum, that of a product, and the
-/// number of minuses in front of the factor; and the nesting outside.
+/// number of minuses before the factor; and the nesting outside.
 #[derive(Drop)]
 pub struct Level {
     pub added: Option<Left>,
@@ -37,11 +37,11 @@ pub struct Level {
 pub enum State {
     /// An operand.
     Operand(Level),
-    /// Behind an atom: `^`, or what may follow a power.
+    /// After an atom: `^`, or what may follow a power.
     Atom(Level, Formula),
-    /// Behind a factor, with the nesting outside and the left operand of a sum.
+    /// After a factor, with the nesting outside and the left operand of a sum.
     End(u8, Option<Left>, Formula),
-    /// An exponent, behind its minus or not.
+    /// An exponent, after its minus or not.
     Exponent(Level, Formula, bool),
 }
 
@@ -60,7 +60,7 @@ impl Level {
 }
 
 impl State {
-    /// The state in front of a text.
+    /// The state before a text.
     pub fn first() -> State
         ensures { stage_of result [] ≡ first_stage }
     {
@@ -82,7 +82,7 @@ fn join(alloc: Global, left: Left, right: Formula) -> Result<Formula, OutOfMemor
     })
 }
 
-/// The formula behind the left operand that waits for it, if any.
+/// The formula after the left operand that waits for it, if any.
 fn put(alloc: Global, left: Option<Left>, right: Formula) -> Result<Formula, OutOfMemory>
     ensures { IfOk result (λ f. tree_of f ≡ put trees (left_of left) (tree_of right)) }
 {
@@ -92,7 +92,7 @@ fn put(alloc: Global, left: Option<Left>, right: Formula) -> Result<Formula, Out
     }
 }
 
-/// The formula behind so many minuses.
+/// The formula after so many minuses.
 #[tactic(auto, using(crate::proofs::Levels::negated_less))]
 fn negated(alloc: Global, minuses: u8, operand: Formula) -> Result<Formula, OutOfMemory>
     ensures { IfOk result (λ f. tree_of f ≡ negated trees minuses (tree_of operand)) }
@@ -138,7 +138,7 @@ fn exponent_of(minus: bool, power: Option<u8>) -> i8
     if minus { -size } else { size }
 }
 
-/// The state behind an operator that follows an operand.
+/// The state after an operator that follows an operand.
 fn signed_on(
     alloc: Global,
     base: u8,
@@ -168,7 +168,7 @@ fn signed_on(
     }
 }
 
-/// The state behind a closed parenthesis.
+/// The state after a closed parenthesis.
 #[tactic(auto, using(crate::proofs::Levels::outside_more))]
 fn closed(
     alloc: Global,
@@ -186,7 +186,7 @@ fn closed(
     }
 }
 
-/// The state behind a token that follows a factor.
+/// The state after a token that follows a factor.
 fn after(
     alloc: Global,
     base: u8,
@@ -205,7 +205,7 @@ fn after(
     }
 }
 
-/// The level with one more minus in front of its factor.
+/// The level with one more minus before its factor.
 fn minused(level: Level) -> Level
     requires { level.minuses < 255 }
     ensures { waiting_of result ≡ minused (waiting_of level) }
@@ -218,7 +218,7 @@ fn minused(level: Level) -> Level
     }
 }
 
-/// The state behind an open parenthesis.
+/// The state after an open parenthesis.
 #[tactic(auto, using(crate::proofs::Levels::outside_more))]
 fn opened(level: Level, outer: &mut Vec<Level>) -> Result<State, OutOfMemory>
     requires { level.base + level.minuses < 255 }
@@ -230,7 +230,7 @@ fn opened(level: Level, outer: &mut Vec<Level>) -> Result<State, OutOfMemory>
     Ok(State::Operand(Level::fresh(base)))
 }
 
-/// The state behind a number.
+/// The state after a number.
 fn number_read(level: Level, value: Option<Dec>) -> Option<State>
     ensures { (o : List (Waiting Tree)) → option_map (λ s. stage_on s o) result
         ≡ Some (AtAtom (waiting_of level) (Number (number_of value)) o) }
@@ -241,14 +241,14 @@ fn number_read(level: Level, value: Option<Dec>) -> Option<State>
     }
 }
 
-/// The state behind a name.
+/// The state after a name.
 fn name_read(level: Level, name: &Name) -> State
     ensures { (o : List (Waiting Tree)) → stage_on result o ≡ AtAtom (waiting_of level) (Variable name.now) o }
 {
     State::Atom(level, Formula::Var(*name))
 }
 
-/// The state behind a token where an operand may come.
+/// The state after a token where an operand may come.
 fn operand_step(
     level: Level,
     outer: &mut Vec<Level>,
@@ -267,7 +267,7 @@ fn operand_step(
     }
 }
 
-/// The state behind a token that follows an atom.
+/// The state after a token that follows an atom.
 fn atom_step(
     alloc: Global,
     level: Level,
@@ -288,7 +288,7 @@ fn atom_step(
     }
 }
 
-/// The state behind a token where an exponent may come.
+/// The state after a token where an exponent may come.
 fn exponent_step(
     alloc: Global,
     level: Level,
@@ -316,7 +316,7 @@ fn exponent_step(
     }
 }
 
-/// The state behind the token, and `None` where no formula goes on with it.
+/// The state after the token, and `None` where no formula goes on with it.
 ///
 /// # Errors
 ///

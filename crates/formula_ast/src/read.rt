@@ -7,7 +7,7 @@ ghost use Rattle.formula_ast.specs.Answers.{Gives};
 
 use crate::fault::FormulaFault;
 use crate::formula::Formula;
-use crate::lexer::{front, opens, skip_blanks};
+use crate::lexer::{opens, skip_blanks, split_token};
 use crate::machine::{State, discard, finish, step};
 use crate::rules::{node_count, refusal, syntax_place};
 use std::alloc::Global;
@@ -16,7 +16,7 @@ use std::alloc::Global;
 ///
 /// # Errors
 ///
-/// The first token that breaks a rule, with its place in the text, or a want of memory.
+/// The first token that breaks a rule, with its place in the text, or out of memory.
 pub fn read_formula(alloc: Global, text: &[u8]) -> Result<Formula, FormulaFault>
     ensures exact { Gives result (reading_of text.now) }
     ensures spelt { IfOk result (λ f. SpellsText text.now (tree_of f)) }
@@ -36,8 +36,8 @@ fn read_whole(alloc: Global, text: &[u8]) -> Result<Formula, FormulaFault>
     let mut rest = skip_blanks(text);
     while !rest.is_empty() {
         let at = text.len() - rest.len();
-        let (token, behind) = front(rest);
-        let refused = refusal(&state, nodes, at, &token.kind, opens(behind));
+        let (token, after) = split_token(rest);
+        let refused = refusal(&state, nodes, at, &token.kind, opens(after));
         if let Some(fault) = refused {
             discard(state);
             return Err(fault);
@@ -50,7 +50,7 @@ fn read_whole(alloc: Global, text: &[u8]) -> Result<Formula, FormulaFault>
         state = next;
         nodes += count;
         end = at + token.len;
-        rest = behind;
+        rest = after;
     }
     let Some(formula) = finish(alloc, state, outer.as_slice())? else {
         return Err(FormulaFault::Syntax(end));

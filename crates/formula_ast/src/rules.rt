@@ -1,10 +1,10 @@
-//! The rules behind the grammar, at one token: a name in front of a parenthesis, a literal that is no
+//! The rules beyond the grammar, at one token: a name before a parenthesis, a literal that is no
 //! bound, an exponent that is not from 1 to 9, and how deep and how large a formula may be.
 
 ghost use Rattle.std.specs.Prelude.{◌≡◌, ◌≤◌, ◌+◌, ◌<◌, ◌^◌, nat_le, List};
 ghost use Rattle.formula_ast.specs.Trees.{Tree};
 ghost use Rattle.formula_ast.specs.Machine.{Waiting};
-ghost use Rattle.formula_ast.specs.Reading.{operand_fault, exponent_fault, word_fault, nests, is_too_deep, is_operand_node, is_joint, is_atom_node, is_node, refusal, node_count, behind_glued, syntax_place};
+ghost use Rattle.formula_ast.specs.Reading.{operand_fault, exponent_fault, word_fault, nests, is_too_deep, is_operand_node, is_joint, is_atom_node, is_node, refusal, node_count, after_glued, syntax_place};
 ghost use Rattle.formula_ast.specs.States.{stage_on};
 
 use crate::fault::FormulaFault;
@@ -18,7 +18,7 @@ const DEEPEST: usize = 64;
 /// The most nodes.
 const MOST_NODES: usize = 256;
 
-/// The fault of a token as an operand, behind which a parenthesis opens or not.
+/// The fault of a token as an operand, after which a parenthesis opens or not.
 fn operand_fault(kind: &Kind, at: usize, opens: bool) -> Option<FormulaFault>
     ensures { result ≡ operand_fault kind.now at opens }
 {
@@ -96,7 +96,7 @@ fn is_operand_node(kind: &Kind) -> bool
     }
 }
 
-/// Whether the token is a node behind an atom.
+/// Whether the token is a node after an atom.
 fn is_atom_node(kind: &Kind) -> bool
     ensures { result ≡ is_atom_node kind.now }
 {
@@ -107,7 +107,7 @@ fn is_atom_node(kind: &Kind) -> bool
     }
 }
 
-/// Whether the token is a node behind a factor.
+/// Whether the token is a node after a factor.
 fn is_joint(kind: &Kind) -> bool
     ensures { result ≡ is_joint kind.now }
 {
@@ -137,7 +137,7 @@ pub fn node_count(state: &State, kind: &Kind) -> usize
     if is_node(state, kind) { 1 } else { 0 }
 }
 
-/// The first rule behind the grammar that the token breaks, in front of which so many nodes stand.
+/// The first rule beyond the grammar that the token breaks, before which so many nodes stand.
 pub fn refusal(
     state: &State,
     nodes: usize,
@@ -169,15 +169,15 @@ pub fn syntax_place(state: &State, at: usize, len: usize, kind: &Kind) -> usize
     ensures { (o : List (Waiting Tree)) → result ≡ syntax_place (stage_on state.now o) at len kind.now }
 {
     match state {
-        State::Operand(_) => at + behind_glued(kind, len),
-        State::Exponent(..) => at + behind_glued(kind, len),
+        State::Operand(_) => at + after_glued(kind, len),
+        State::Exponent(..) => at + after_glued(kind, len),
         _ => at,
     }
 }
 
 /// The length of a number that is directly followed by a byte that may not follow it, and 0 of others.
-fn behind_glued(kind: &Kind, len: usize) -> usize
-    ensures is { result ≡ behind_glued kind.now len }
+fn after_glued(kind: &Kind, len: usize) -> usize
+    ensures is { result ≡ after_glued kind.now len }
     ensures most { result ≤ len }
 {
     match kind {

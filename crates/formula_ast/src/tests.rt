@@ -239,23 +239,23 @@ fn texts_are_refused_at_their_first_fault(rt: HostRuntime) {
     assert_eq!(rt; fault_of(&rt, &[49, 128]), Some(FormulaFault::Syntax(1)));
 }
 
-// A text of `front`, so many times `part`, and `behind`.
+// A text of `prefix`, so many times `part`, and `after`.
 fn repeated(
     rt: &HostRuntime,
-    front: &str,
+    prefix: &str,
     part: &str,
     times: usize,
-    behind: &str,
+    after: &str,
 ) -> Result<Bytes, Fail> {
-    let mut text = Bytes::from_slice(rt.alloc(), front.as_bytes())?;
+    let mut text = Bytes::from_slice(rt.alloc(), prefix.as_bytes())?;
     for _ in 0..times {
         text.extend_from_slice(part.as_bytes())?;
     }
-    text.extend_from_slice(behind.as_bytes())?;
+    text.extend_from_slice(after.as_bytes())?;
     Ok(text)
 }
 
-// Texts at a limit: a front, a part and how often it stands there, what is behind, and how many
+// Texts at a limit: a prefix, a part and how often it stands there, what is after, and how many
 // parentheses close.
 const ACCEPTED_AT_LIMITS: [(&str, &str, usize, &str, usize); 5] = [
     ("", "(", 64, "1", 64),
@@ -284,8 +284,8 @@ const TOO_MANY: [(&str, &str, usize, &str, usize); 3] = [
 
 #[test]
 fn texts_at_limits_are_read(rt: HostRuntime) -> Result<(), Fail> {
-    for (front, part, times, behind, closed) in ACCEPTED_AT_LIMITS {
-        let text = repeated(&rt, front, part, times, behind)?;
+    for (prefix, part, times, after, closed) in ACCEPTED_AT_LIMITS {
+        let text = repeated(&rt, prefix, part, times, after)?;
         let text = repeated(&rt, str::from_utf8(text.as_slice())?, ")", closed, "")?;
         assert_eq!(rt;
             fault_of(&rt, text.as_slice()),
@@ -298,8 +298,8 @@ fn texts_at_limits_are_read(rt: HostRuntime) -> Result<(), Fail> {
 
 #[test]
 fn texts_past_limits_are_refused(rt: HostRuntime) -> Result<(), Fail> {
-    for (front, part, times, behind, place) in TOO_DEEP {
-        let text = repeated(&rt, front, part, times, behind)?;
+    for (prefix, part, times, after, place) in TOO_DEEP {
+        let text = repeated(&rt, prefix, part, times, after)?;
         let fault = Some(FormulaFault::TooDeep(place));
         assert_eq!(rt;
             fault_of(&rt, text.as_slice()),
@@ -307,8 +307,8 @@ fn texts_past_limits_are_refused(rt: HostRuntime) -> Result<(), Fail> {
             "at {times} times {part}"
         );
     }
-    for (front, part, times, behind, place) in TOO_MANY {
-        let text = repeated(&rt, front, part, times, behind)?;
+    for (prefix, part, times, after, place) in TOO_MANY {
+        let text = repeated(&rt, prefix, part, times, after)?;
         let fault = Some(FormulaFault::TooMany(place));
         assert_eq!(rt;
             fault_of(&rt, text.as_slice()),

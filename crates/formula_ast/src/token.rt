@@ -1,7 +1,7 @@
 use crate::name::Name;
 use decimal18::Dec;
 
-/// A binary operator, or the sign in front of a factor or an exponent.
+/// A binary operator, or the sign before a factor or an exponent.
 #[derive(Clone, Copy, Debug, PartialEq, Eq)]
 pub enum Sign {
     Plus,

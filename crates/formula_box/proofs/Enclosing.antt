@@ -17,7 +17,7 @@ use Rattle.fixed_interval.proofs.Halving.{power_span_encloses}
 use Rattle.formula_ast.specs.Trees.{Tree, Number, Variable, Opposite, Joined, Raised, IsExponent, HasExponents}
 use Rattle.formula_ast.specs.declared.token.Sign.{Sign}
 use Rattle.formula_ast.specs.declared.token.Sign.TheVariants.{Plus, Minus, Times, Over}
-use Rattle.formula_box.specs.Values.{Answer, then_with, in_range, arithmetic, used, use_behind, joined_span, span_from, span_of}
+use Rattle.formula_box.specs.Values.{Answer, then_with, in_range, arithmetic, used, use_after, joined_span, span_from, span_of}
 use Rattle.formula_box.specs.Exact.{expression_of, AreEnclosed, HasValueWithin}
 
 -- ---- what holds of the span of an answer
@@ -112,7 +112,7 @@ from_holds given v known all k (Opposite a) h =
     (λ s w. record { defined = w.defined; enclosed = negative_span_encloses s _ w.enclosed })
 from_holds given v known all k (Joined s a b) h =
     then_holds (span_from given k a) _ (HasValueWithin v known a) _ (from_holds given v known all k a h.0)
-    (λ x w. then_holds (span_from given (use_behind k a) b) _ (HasValueWithin v known b) _ (from_holds given v known all (use_behind k a) b h.1)
+    (λ x w. then_holds (span_from given (use_after k a) b) _ (HasValueWithin v known b) _ (from_holds given v known all (use_after k a) b h.1)
     (λ y u. joined_holds v known s a b x y w u))
 from_holds given v known all k (Raised a e) h =
     then_holds (span_from given k a) _ (HasValueWithin v known a) _ (from_holds given v known all k a h.0)

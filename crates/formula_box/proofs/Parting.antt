@@ -5,7 +5,7 @@ use Rattle.fixed_interval.specs.Interval.{Interval}
 use Rattle.fixed_interval.specs.Powers.{power, then_span}
 use Rattle.formula_ast.specs.Trees.{Tree, Number, Variable, Opposite, Joined, Raised}
 use Rattle.formula_ast.specs.declared.token.Sign.{Sign}
-use Rattle.formula_box.specs.Values.{Answer, then_with, arithmetic, used, use_behind, joined_span, span_from, span_of, in_range}
+use Rattle.formula_box.specs.Values.{Answer, then_with, arithmetic, used, use_after, joined_span, span_from, span_of, in_range}
 use Rattle.formula_box.specs.Slopes.{there, where_used, joined_slope, power_slope, partial_of}
 use Rattle.formula_box.specs.Parts.{IsPartOf}
 use Rattle.formula_box.specs.declared.fault.EvalFault.{EvalFault}
@@ -37,9 +37,9 @@ there-from given k j (Opposite a) =
 there-from given k j (Joined s a b) =
     there-then (span_from given k a) _
     ∙ then_same _ _ _ _ (there-from given k j a)
-    (λ x. there-then (span_from given (use_behind k a) b) _
-    ∙ then_same _ _ _ _ (there-from given (use_behind k a) (use_behind j a) b) (λ y. refl)
-    ∙ sym (there-then (span_from given (use_behind j a) b) _))
+    (λ x. there-then (span_from given (use_after k a) b) _
+    ∙ then_same _ _ _ _ (there-from given (use_after k a) (use_after j a) b) (λ y. refl)
+    ∙ sym (there-then (span_from given (use_after j a) b) _))
     ∙ sym (there-then (span_from given j a) _)
 there-from given k j (Raised a e) =
     there-then (span_from given k a) _
@@ -51,15 +51,15 @@ unfolding span_of
 there_is given k f s e = there-from given 0 k f ∙ ap there e
 
 pub joined_part : (given : List ℕ → Option Interval) (n : List ℕ) (k j : ℕ) (s : Sign) (a b : Tree) (p q r : Part)
-    → IsPartOf given n k a (Ok p) → j ≡ use_behind k a → IsPartOf given n j b (Ok q)
+    → IsPartOf given n k a (Ok p) → j ≡ use_after k a → IsPartOf given n j b (Ok q)
     → Ok r.value ≡ joined_span s p.value q.value
     → r.slope.used ≡ (p.slope.used || q.slope.used)
     → r.slope.span ≡ where_used (p.slope.used || q.slope.used)
     (joined_slope s (Some p.value) (Some q.value) (Some r.value) p.slope.span q.slope.span)
     → IsPartOf given n k (Joined s a b) (Ok r)
-joined_part given n k j s a b p q r left behind right value used span =
+joined_part given n k j s a b p q r left after right value used span =
     let is : span_from given k (Joined s a b) ≡ Ok r.value =
-    rw (left.0, ← behind, right.0) (sym value) in (
+    rw (left.0, ← after, right.0) (sym value) in (
       is,
       (
         used ∙ ap₂ ◌||◌ left.1.0 right.1.0,

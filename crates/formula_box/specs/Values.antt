@@ -16,13 +16,13 @@ use Rattle.formula_box.specs.declared.fault.EvalFault.TheVariants.{Arith, NoValu
 abbrev pub next_use : ℕ → ℕ
 next_use k = min (k + 1) (2 ^ 64 - 1)
 
--- the number of the use behind those in the formula, which begin with use k
-abbrev pub use_behind : ℕ → Tree → ℕ
-use_behind k (Number q) = k
-use_behind k (Variable n) = next_use k
-use_behind k (Opposite a) = use_behind k a
-use_behind k (Joined s a b) = use_behind (use_behind k a) b
-use_behind k (Raised a e) = use_behind k a
+-- the number of the use after those in the formula, which begin with use k
+abbrev pub use_after : ℕ → Tree → ℕ
+use_after k (Number q) = k
+use_after k (Variable n) = next_use k
+use_after k (Opposite a) = use_after k a
+use_after k (Joined s a b) = use_after (use_after k a) b
+use_after k (Raised a e) = use_after k a
 
 abbrev pub Answer : Type 0
 Answer = Result Interval EvalFault
@@ -57,7 +57,7 @@ span_from given k (Number q) = Ok (point_span q)
 span_from given k (Variable n) = used k (given n)
 span_from given k (Opposite a) = then_with (span_from given k a) (λ s. Ok (negative_span s))
 span_from given k (Joined s a b) =
-    then_with (span_from given k a) (λ left. then_with (span_from given (use_behind k a) b) (λ right. joined_span s left right))
+    then_with (span_from given k a) (λ left. then_with (span_from given (use_after k a) b) (λ right. joined_span s left right))
 span_from given k (Raised a e) = then_with (span_from given k a) (λ s. arithmetic (power s e))
 
 -- the span of the formula, or its first fault

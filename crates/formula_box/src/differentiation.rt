@@ -1,7 +1,7 @@
 ghost use Rattle.std.specs.Prelude.{◌≡◌, ◌+◌, ◌≤◌, IfOk};
 ghost use Rattle.formula_ast.specs.Trees.{HasExponents};
 ghost use Rattle.formula_ast.specs.Views.{tree_of};
-ghost use Rattle.formula_box.specs.Values.{use_behind};
+ghost use Rattle.formula_box.specs.Values.{use_after};
 ghost use Rattle.formula_box.specs.Slopes.{partial_of};
 ghost use Rattle.formula_box.specs.Costs.{partial_cost};
 ghost use Rattle.formula_box.specs.Parts.{IsPartOf};
@@ -49,7 +49,7 @@ fn part_from<E: Env, L: Ledger>(
 ) -> Result<Part, EvalFault>
     requires { HasExponents (tree_of f.now) }
     ensures part { IsPartOf (E.given env.now) by.now uses.old (tree_of f.now) result }
-    ensures counted { IfOk result (λ _. uses.new ≡ use_behind uses.old (tree_of f.now)) }
+    ensures counted { IfOk result (λ _. uses.new ≡ use_after uses.old (tree_of f.now)) }
     ensures ticks { steps.new ≤ steps.old + partial_cost (tree_of f.now) }
 {
     match f {

@@ -1,7 +1,7 @@
 ghost use Rattle.std.specs.Prelude.{◌≡◌, ◌+◌, ◌≤◌, IfOk};
 ghost use Rattle.formula_ast.specs.Trees.{HasExponents};
 ghost use Rattle.formula_ast.specs.Views.{tree_of};
-ghost use Rattle.formula_box.specs.Values.{next_use, use_behind, used, span_from, span_of};
+ghost use Rattle.formula_box.specs.Values.{next_use, use_after, used, span_from, span_of};
 ghost use Rattle.formula_box.specs.Costs.{value_cost};
 
 use crate::fault::EvalFault;
@@ -11,7 +11,7 @@ use fixed_interval::{Span, Steps, neg, point};
 use formula_ast::{Formula, Name};
 use std::sync::ledger::Ledger;
 
-// The number of the use behind use `k`.
+// The number of the use after use `k`.
 pub(crate) fn next_use(k: usize) -> usize
     ensures { result ≡ next_use k }
 {
@@ -55,7 +55,7 @@ fn eval_from<E: Env, L: Ledger>(
 ) -> Result<Span, EvalFault>
     requires { HasExponents (tree_of f.now) }
     ensures span { result ≡ span_from (E.given env.now) uses.old (tree_of f.now) }
-    ensures counted { IfOk result (λ _. uses.new ≡ use_behind uses.old (tree_of f.now)) }
+    ensures counted { IfOk result (λ _. uses.new ≡ use_after uses.old (tree_of f.now)) }
     ensures ticks { steps.new ≤ steps.old + value_cost (tree_of f.now) }
 {
     match f {

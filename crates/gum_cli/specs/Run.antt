@@ -51,7 +51,7 @@ pub record IsDone (count count' : ℕ) (taken taken' left left' : Option (List �
   pub wrote : Wrote written written' room room' (out script)
   pub sound : AreSound initial (items_of script)
 
--- a run that was cut off: what was written is a front of what was due
+-- a run that was cut off: what was written is a prefix of what was due
 pub record IsCutOff (count count' : ℕ) (taken taken' left left' : Option (List ℕ)) (ended' : Bool)
     (written written' : Option (List ℕ)) (room room' : Option ℕ) : Type 0 where
   pub script : List ℕ

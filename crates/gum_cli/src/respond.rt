@@ -70,7 +70,7 @@ fn reply_to<L: Ledger>(
     }
 }
 
-// Answers one line, whichever lines come behind it.
+// Answers one line, whichever lines come after it.
 fn answer_item<L: Ledger>(
     alloc: Global,
     item: &Item,

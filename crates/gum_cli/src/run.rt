@@ -119,7 +119,7 @@ pub fn run<S: Source, K: Sink, L: Ledger>(
         (S.taken source.old) (S.taken source.new) (S.left source.old) (S.left source.new) (S.ended source.new)
         (K.written sink.old) (K.written sink.new) (K.room sink.old) (K.room sink.new) }
 
-    // However it ends, a front of what was due was written, and nothing where the replies were not begun.
+    // However it ends, a prefix of what was due was written, and nothing where the replies were not begun.
     ensures cut_off { IsTrue (is_run words.now.items) → IsCutOff (S.count source.old) (S.count source.new)
         (S.taken source.old) (S.taken source.new) (S.left source.old) (S.left source.new) (S.ended source.new)
         (K.written sink.old) (K.written sink.new) (K.room sink.old) (K.room sink.new) }
@@ -150,7 +150,7 @@ pub fn run<S: Source, K: Sink, L: Ledger>(
     ensures over_limit { S.count source.old + script_limit < S.count source.new
         → (result ≡ Status.InputLimit) ⊎ (result ≡ Status.OutOfMemory) }
 
-    // No piece is taken behind the one that passes the limit.
+    // No piece is taken after the one that passes the limit.
     ensures most { S.count source.new ≤ S.count source.old + script_limit + piece_length }
 {
     if !says_run(words) {

@@ -19,7 +19,7 @@ struct LineFeeds {
     shortest_piece: usize,
     longest_piece: usize,
     reads: u32,
-    reads_behind_end: u32,
+    reads_after_end: u32,
 }
 
 impl LineFeeds {
@@ -33,7 +33,7 @@ impl LineFeeds {
             shortest_piece: usize::MAX,
             longest_piece: 0,
             reads: 0,
-            reads_behind_end: 0,
+            reads_after_end: 0,
         }
     }
 
@@ -46,7 +46,7 @@ impl LineFeeds {
         self.longest_piece = self.longest_piece.max(length);
         self.reads = self.reads.saturating_add(1);
         if self.ended {
-            self.reads_behind_end = self.reads_behind_end.saturating_add(1);
+            self.reads_after_end = self.reads_after_end.saturating_add(1);
         }
     }
 }
@@ -102,7 +102,7 @@ fn reads_whole_pieces_to_the_end(rt: HostRuntime) -> Result<(), Fail> {
     assert_eq!(rt; source.shortest_piece, 65_536);
     assert_eq!(rt; source.longest_piece, 65_536);
     assert_eq!(rt; source.reads, 3);
-    assert_eq!(rt; source.reads_behind_end, 0);
+    assert_eq!(rt; source.reads_after_end, 0);
     Ok(())
 }
 

@@ -4,11 +4,11 @@ use Rattle.std.specs.List.{prefix_len}
 use Rattle.formula_ast.specs.Tokens.{is_blank}
 use Rattle.formula_ast.specs.Rules.{written_len}
 
--- a byte in front of a comment, which begins with the first `#`
+-- a byte before a comment, which begins with the first `#`
 abbrev pub is_no_hash : ℕ → Bool
 is_no_hash byte = not (byte == 35)
 
--- the line in front of its comment
+-- the line before its comment
 abbrev pub without_comment : List ℕ → List ℕ
 without_comment line = take (prefix_len is_no_hash line) line
 
@@ -20,7 +20,7 @@ pub record Word : Type 0 where
 abbrev pub is_in_word : ℕ → Bool
 is_in_word byte = not (is_blank byte)
 
--- the length of the word at the front
+-- the length of the word at the start
 abbrev pub word_len : List ℕ → ℕ
 word_len text = prefix_len is_in_word text
 

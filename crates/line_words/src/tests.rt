@@ -1,7 +1,7 @@
 use crate::{split_word, without_comment, written_len};
 use std::test::Fail;
 
-/// Lines, each with what stands in front of its comment and the length of that without its last blanks.
+/// Lines, each with what stands before its comment and the length of that without its last blanks.
 const LINES: [(&str, &str, usize); 7] = [
     ("", "", 0),
     ("#", "", 0),
@@ -15,9 +15,9 @@ const LINES: [(&str, &str, usize); 7] = [
 #[test]
 fn lines_without_comments(rt: HostRuntime) {
     for (line, text, len) in LINES {
-        let front = without_comment(line.as_bytes());
-        assert!(rt; front == text.as_bytes(), "at {line}");
-        assert_eq!(rt; written_len(front), len, "at {line}");
+        let prefix = without_comment(line.as_bytes());
+        assert!(rt; prefix == text.as_bytes(), "at {line}");
+        assert_eq!(rt; written_len(prefix), len, "at {line}");
     }
 }
 

@@ -5,7 +5,7 @@ ghost use Rattle.line_words.specs.Words.{is_no_hash, without_comment, written_pa
 
 use formula_ast::{blanks_len, is_blank};
 
-/// The number of bytes in front of the first `#`.
+/// The number of bytes before the first `#`.
 fn comment_start(line: &[u8]) -> usize
     ensures is { result ≡ prefix_len is_no_hash line.now }
     ensures within { result ≤ length line.now }
@@ -18,7 +18,7 @@ fn comment_start(line: &[u8]) -> usize
     line.len()
 }
 
-/// The line in front of its comment, which begins with the first `#`.
+/// The line before its comment, which begins with the first `#`.
 pub fn without_comment(line: &[u8]) -> &[u8]
     ensures text { result.now ≡ without_comment line.now }
     ensures within { length result.now ≤ length line.now }
@@ -45,10 +45,10 @@ pub fn written_part(line: &[u8]) -> &[u8]
     ensures { result.now ≡ written_part line.now }
 {
     let text = without_comment(line);
-    front(text, written_len(text))
+    prefix(text, written_len(text))
 }
 
-/// The length of the word at the front.
+/// The length of the word at the start.
 fn word_len(text: &[u8]) -> usize
     ensures is { result ≡ word_len text.now }
     ensures within { result ≤ length text.now }
@@ -62,7 +62,7 @@ fn word_len(text: &[u8]) -> usize
 }
 
 /// The first bytes of the text, so many.
-fn front(text: &[u8], len: usize) -> &[u8]
+fn prefix(text: &[u8], len: usize) -> &[u8]
     requires { len ≤ length text.now }
     ensures is { result.now ≡ take len text.now }
     ensures length { length result.now ≡ len }
@@ -70,8 +70,8 @@ fn front(text: &[u8], len: usize) -> &[u8]
     &text[..len]
 }
 
-/// The text behind so many bytes.
-pub fn behind(text: &[u8], len: usize) -> &[u8]
+/// The text after so many bytes.
+pub fn after(text: &[u8], len: usize) -> &[u8]
     requires { len ≤ length text.now }
     ensures is { result.now ≡ drop len text.now }
     ensures length { len + length result.now ≡ length text.now }
@@ -79,25 +79,25 @@ pub fn behind(text: &[u8], len: usize) -> &[u8]
     &text[len..]
 }
 
-/// The first word of a text whose first byte has the place `at`: its place, the word, and the text behind
+/// The first word of a text whose first byte has the place `at`: its place, the word, and the text after
 /// it. `None` where the text is blank.
 pub fn split_word(text: &[u8], at: usize) -> Option<(usize, &[u8], &[u8])>
     requires { at + length text.now < 2 ^ 64 }
     ensures word { IfSome result (λ w. words text.now 0 at
         ≡ record { place = w.0; text = w.1.now } ∷ words w.2.now 0 (w.0 + length w.1.now)) }
     ensures parts { IfSome result (λ w. w.0 + length w.1.now + length w.2.now ≡ at + length text.now) }
-    ensures behind { IfSome result (λ w. (n : ℕ) → at + n ≡ w.0 + length w.1.now → w.2.now ≡ drop n text.now) }
+    ensures after { IfSome result (λ w. (n : ℕ) → at + n ≡ w.0 + length w.1.now → w.2.now ≡ drop n text.now) }
     ensures after { IfSome result (λ w. at ≤ w.0) }
     ensures some { IfSome result (λ w. 0 < length w.1.now) }
     ensures blank { IfNone result (words text.now 0 at ≡ []) }
 {
     let blanks = blanks_len(text);
-    let rest = behind(text, blanks);
+    let rest = after(text, blanks);
     if rest.is_empty() {
         return None;
     }
     let len = word_len(rest);
-    Some((at + blanks, front(rest, len), behind(rest, len)))
+    Some((at + blanks, prefix(rest, len), after(rest, len)))
 }
 
 /// The first word of the line from the place `at` on, with its place. `None` where there is none.
@@ -108,6 +108,6 @@ pub fn next_word(line: &[u8], at: usize) -> Option<(usize, &[u8])>
     ensures within { IfSome result (λ w. w.0 + length w.1.now ≤ length line.now) }
     ensures blank { IfNone result (words_from line.now at ≡ []) }
 {
-    let (place, word, _) = split_word(behind(line, at), at)?;
+    let (place, word, _) = split_word(after(line, at), at)?;
     Some((place, word))
 }

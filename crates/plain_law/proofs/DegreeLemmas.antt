@@ -1,4 +1,4 @@
--- A sum that a loop adds up from the front.
+-- A sum that a loop adds up from the start.
 use Rattle.std.specs.Prelude.{◌≡◌, ℕ, ◌+◌, ◌<◌, ◌≤◌, List, ◌∷◌, map, length, drop, pos}
 use Rattle.std.proofs.Common.{sym, ◌∙◌, ap, get_or}
 use Rattle.std.proofs.lemmas.List.{drop_more, drop_all}

@@ -6,26 +6,26 @@ use Rattle.std.proofs.lemmas.List.Splits.{length-slice_split, join_with_byte-sli
 use Rattle.formula_ast.proofs.Cuts.{IsFree, cut_at}
 use Rattle.script_lines.specs.Items.{parts_of, ended_item, last_item, last_items, items_in, whole_items_in, items_of, whole_items_of}
 
--- parts behind another part
-items_behind : (part : List ℕ) (parts : List (List ℕ)) (n : ℕ) → length parts ≡ n + 1
+-- parts after another part
+items_after : (part : List ℕ) (parts : List (List ℕ)) (n : ℕ) → length parts ≡ n + 1
     → items_in (part ∷ parts) ≡ ended_item part ∷ items_in parts
-items_behind part [] n h = absurd (omega (arith, h))
-items_behind part (next ∷ parts) n h = refl
+items_after part [] n h = absurd (omega (arith, h))
+items_after part (next ∷ parts) n h = refl
 
-whole_behind : (part : List ℕ) (parts : List (List ℕ)) (n : ℕ) → length parts ≡ n + 1
+whole_after : (part : List ℕ) (parts : List (List ℕ)) (n : ℕ) → length parts ≡ n + 1
     → whole_items_in (part ∷ parts) ≡ ended_item part ∷ whole_items_in parts
-whole_behind part [] n h = absurd (omega (arith, h))
-whole_behind part (next ∷ parts) n h = refl
+whole_after part [] n h = absurd (omega (arith, h))
+whole_after part (next ∷ parts) n h = refl
 
 -- the first part is an item where a line feed ended it
 items_taken : (text line rest : List ℕ) → parts_of text ≡ line ∷ parts_of rest → items_of text ≡ ended_item line ∷ items_of rest
 items_taken text line rest e =
-    ap items_in e ∙ items_behind line (parts_of rest) _ (length-slice_split (λ byte. byte == 10) rest)
+    ap items_in e ∙ items_after line (parts_of rest) _ (length-slice_split (λ byte. byte == 10) rest)
 
 whole_taken : (text line rest : List ℕ) → parts_of text ≡ line ∷ parts_of rest
     → whole_items_of text ≡ ended_item line ∷ whole_items_of rest
 whole_taken text line rest e =
-    ap whole_items_in e ∙ whole_behind line (parts_of rest) _ (length-slice_split (λ byte. byte == 10) rest)
+    ap whole_items_in e ∙ whole_after line (parts_of rest) _ (length-slice_split (λ byte. byte == 10) rest)
 
 -- where no whole item is left, the items are those of the last part
 last_part : (parts : List (List ℕ)) (text : List ℕ) (n : ℕ) → length parts ≡ n + 1 → whole_items_in parts ≡ [] → join_with_byte 10 parts ≡ text
@@ -46,7 +46,7 @@ full_last (byte ∷ bytes) full = refl
 pub last_step : (text left : List ℕ) → left ≡ text → whole_items_of text ≡ [] → (length left == 0) ≡ false → items_of text ≡ last_item left ∷ []
 last_step text left same none full = items_left text none ∙ ap last_items (sym same) ∙ full_last left full
 
--- behind the first line feed stands what is left; the first line stays the same with more bytes behind
+-- after the first line feed stands what is left; the first line stays the same with more bytes after
 pub more_parts : (text : List ℕ) (n : ℕ) → n < length text → IsFree text 10 n → get_or text n 0 ≡ 10 → (rest : List ℕ)
     → parts_of (text ++ rest) ≡ take n text ∷ parts_of (drop (n + 1) text ++ rest)
 more_parts text n within h e rest =
@@ -75,7 +75,7 @@ whole_more bytes text left at len same whole line rest =
     ap (λ xs. whole_items_of (xs ++ rest)) (sym (same ∙ whole)) ∙ whole_taken (left ++ rest) (take len left) (drop (len + 1) left ++ rest) (line rest)
     ∙ ap (λ xs. ended_item (take len left) ∷ whole_items_of xs) (rest_is bytes left rest at len same)
 
--- with nothing behind
+-- with nothing after
 pub items_step : (bytes text left : List ℕ) (at len : ℕ) → left ≡ drop at bytes → drop at bytes ≡ text → HasLine left len
     → items_of text ≡ ended_item (take len left) ∷ items_of (drop (at + (len + 1)) bytes)
 items_step bytes text left at len same whole line =

@@ -1,4 +1,4 @@
--- What an item is as a command is no want of memory.
+-- What an item is as a command is never out of memory.
 use Rattle.std.proofs.Common.{◌≡◌, ◌≢◌, ℕ, ◌+◌, Bool, true, false, cond, List, [], ◌∷◌, length, Some, Ok, Err, refl, subst}
 use Rattle.std.specs.Prelude.{bytes_eq, codes}
 use Rattle.formula_ast.specs.Names.{is_plain_name, is_name}

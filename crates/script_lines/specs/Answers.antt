@@ -13,7 +13,7 @@ line_given (Ok None) = Ok None
 line_given (Ok (Some command)) = Ok (Some (command_of command))
 line_given (Err fault) = Err fault
 
--- the answer is what the definition gives, or a want of memory
+-- the answer is what the definition gives, or out of memory
 abbrev pub GivesRow : Read CodeRow → Read Row → Type 0
 GivesRow answer r = Gives OutOfMemory (mapped row_of answer) r
 

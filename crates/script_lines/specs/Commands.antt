@@ -1,5 +1,5 @@
 -- What a line is as a command. It is read from left to right, and the first word that breaks a rule decides; its
--- place is counted from 1. Where the line ends too early, the place is the one behind its end.
+-- place is counted from 1. Where the line ends too early, the place is the one after its end.
 use Rattle.std.specs.Prelude.{ℕ, ◌+◌, ◌||◌, Bool, false, if◌then◌else◌, List, [], ◌∷◌, length, Option, Some, None, Result, Ok, Err, bytes_eq, codes}
 use Rattle.formula_ast.specs.Names.{is_plain_name, is_name}
 use Rattle.line_words.specs.Words.{Word, words_from, written_part}
@@ -22,7 +22,7 @@ abbrev pub mapped : {A B : Type 0} → (A → B) → Read A → Read B
 mapped make (Ok x) = Ok (make x)
 mapped make (Err fault) = Err fault
 
--- ---- words behind the first. `end` is the length of the line
+-- ---- words after the first. `end` is the length of the line
 -- no word more
 abbrev pub alone : {A : Type 0} → A → List Word → Read A
 alone x [] = Ok x

@@ -4,7 +4,7 @@ use Rattle.std.specs.List.{slice_split, slice_index}
 use Rattle.script_lines.specs.declared.item.Item.{Item}
 use Rattle.script_lines.specs.declared.item.Item.TheVariants.{Line, LongLine}
 
--- the most bytes of a line in front of its line feed
+-- the most bytes of a line before its line feed
 abbrev pub line_limit : ℕ
 line_limit = 65536
 

@@ -22,14 +22,14 @@ use Rattle.answers.specs.declared.reply.Answer.TheVariants.{Value, Dump, ValueFa
 use Rattle.answers.specs.declared.reply.Reply.{Reply}
 use Rattle.answers.specs.declared.reply.Reply.TheVariants.{Fine, Line, Edit, History, Mark, Ask, Said}
 
--- some words, and a name or a number behind them
+-- some words, and a name or a number after them
 abbrev pub named : List ℕ → List ℕ → List ℕ
 named words name = words ++ name ++ codes "\n"
 
 abbrev pub placed : List ℕ → ℕ → List ℕ
 placed words place = words ++ decimal place ++ codes "\n"
 
--- ---- refusals; a want of memory has no text
+-- ---- refusals; out of memory has no text
 abbrev pub text_of_row_fault : RowFault → List ℕ
 text_of_row_fault (Syntax at) = placed (codes "refused syntax ") at
 text_of_row_fault (NotNumber at) = placed (codes "refused not_number ") at
@@ -73,7 +73,7 @@ text_of_ask_fault (NoSuchResult name) = named (codes "refused no_such_result ") 
 text_of_ask_fault AskMemory = []
 
 -- ---- answers
--- the words in front of the row in which a fault arose
+-- the words before the row in which a fault arose
 abbrev pub arithmetic_words : ArithFault → List ℕ
 arithmetic_words ZeroDivisor = codes "fault zero_divisor "
 arithmetic_words Overflow = codes "fault overflow "
@@ -98,7 +98,7 @@ text_of_reply (Mark fault) = text_of_mark_fault fault
 text_of_reply (Ask fault) = text_of_ask_fault fault
 text_of_reply (Said answer) = text_of_answer answer
 
--- ---- replies that say a want of memory
+-- ---- replies that say out of memory
 abbrev pub is_row_memory : RowFault → Bool
 is_row_memory OutOfMemory = true
 is_row_memory (Syntax at) = false

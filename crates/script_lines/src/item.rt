@@ -13,7 +13,7 @@ pub enum Item {
     LongLine,
 }
 
-/// The most bytes of a line in front of its line feed.
+/// The most bytes of a line before its line feed.
 const LINE_LIMIT: usize = 65_536;
 
 /// Whether the line has more bytes than a line may have.
@@ -37,7 +37,7 @@ fn without_return(line: &[u8]) -> &[u8]
     line
 }
 
-/// The line that stood in front of a line feed.
+/// The line that stood before a line feed.
 ///
 /// # Errors
 ///
@@ -51,7 +51,7 @@ pub(crate) fn ended_item(alloc: Global, line: &[u8]) -> Result<Item, OutOfMemory
     Ok(Item::Line(Bytes::from_slice(alloc, without_return(line))?))
 }
 
-/// The line that stood in front of the end of the input.
+/// The line that stood before the end of the input.
 ///
 /// # Errors
 ///

@@ -8,8 +8,8 @@ ghost use Rattle.answers.specs.declared.fault.LineFault.{LineFault};
 ghost use Rattle.script_lines.specs.declared.item.Item.{Item};
 ghost use Rattle.script_lines.specs.Commands.{command_read};
 
-/// What an item is, is a command or a refusal, and no want of memory.
-pub fn commands_are_never_a_want_of_memory()
+/// What an item is, is a command or a refusal, and never out of memory.
+pub fn commands_are_never_out_of_memory()
     ensures line { (item : Item) → command_read item ≢ Err LineFault.OutOfMemory }
     ensures row { (item : Item) → command_read item ≢ Err (LineFault.Row RowFault.OutOfMemory) }
 {}

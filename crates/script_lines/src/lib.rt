@@ -10,12 +10,12 @@ mod splitter;
 #[cfg(test)]
 mod tests;
 mod verb;
-mod words_behind;
+mod words_after;
 mod worked;
 
 pub use decimal18::OutOfMemory;
 pub use item::Item;
-pub use laws::{commands_are_never_a_want_of_memory, commands_are_regular};
+pub use laws::{commands_are_never_out_of_memory, commands_are_regular};
 pub use print::print_reply;
 pub use read::read_command;
 pub use splitter::Splitter;

@@ -17,7 +17,7 @@ use sheet_rows::{Row, print_row};
 use std::alloc::Global;
 use std::rc::Rc;
 
-/// The words of a fault, in front of the row in which it arose.
+/// The words of a fault, before the row in which it arose.
 fn arithmetic_words(fault: &ArithFault) -> &'static [u8]
     ensures { result.now ≡ arithmetic_words fault.now }
 {
@@ -27,7 +27,7 @@ fn arithmetic_words(fault: &ArithFault) -> &'static [u8]
     }
 }
 
-/// Puts a number behind a space at the end.
+/// Puts a number after a space at the end.
 fn put_number(alloc: Global, text: &mut Bytes, number: Dec) -> Result<(), OutOfMemory>
     ensures { OnOk result (text.new ≡ text.old ++ codes " " ++ text_of number) }
 {
@@ -87,7 +87,7 @@ fn put_reply(alloc: Global, text: &mut Bytes, reply: &Reply) -> Result<(), OutOf
     }
 }
 
-/// The text of a reply, of whole lines. A reply that says a want of memory has none.
+/// The text of a reply, of whole lines. A reply that says out of memory has none.
 ///
 /// # Errors
 ///

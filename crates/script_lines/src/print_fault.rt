@@ -1,4 +1,4 @@
-//! The texts of refusals. A want of memory has none.
+//! The texts of refusals. Out of memory has none.
 
 ghost use Rattle.std.specs.Prelude.{◌≡◌, ◌++◌, OnOk};
 ghost use Rattle.script_lines.specs.Texts.{named, placed, text_of_row_fault, text_of_line_fault, text_of_edit_fault, text_of_history_fault, text_of_mark_fault, text_of_ask_fault};

@@ -11,7 +11,7 @@ ghost use Rattle.script_lines.specs.Answers.{GivesRow, GivesCommand, GivesLine};
 
 use crate::item::Item;
 use crate::verb::{Verb, verb_of};
-use crate::words_behind::{alone, read_name, read_query_at, read_query_with};
+use crate::words_after::{alone, read_name, read_query_at, read_query_with};
 use answers::{Command, Edit, LineFault};
 use line_words::{next_word, written_part};
 use sheet_rows::{Row, RowFault, read_row};
@@ -47,22 +47,22 @@ fn read_with(
         → gives_formula_with verb line.now (record { place = place; text = word.now }) ≡ true }
     ensures regular { IfOk result (λ command. IsRegularCommand (command_of command)) }
 {
-    let behind = place + word.len();
+    let after = place + word.len();
     match verb {
-        Verb::Set => Ok(Command::Change(Edit::Set(read_row_at(alloc, line, behind)?))),
-        Verb::Remove => Ok(Command::Change(Edit::Remove(read_name(text, behind)?))),
+        Verb::Set => Ok(Command::Change(Edit::Set(read_row_at(alloc, line, after)?))),
+        Verb::Remove => Ok(Command::Change(Edit::Remove(read_name(text, after)?))),
         Verb::Undo => {
-            alone((), text, behind)?;
+            alone((), text, after)?;
             Ok(Command::Undo)
         }
         Verb::Redo => {
-            alone((), text, behind)?;
+            alone((), text, after)?;
             Ok(Command::Redo)
         }
-        Verb::Mark => Ok(Command::Mark(read_name(text, behind)?)),
-        Verb::Restore => Ok(Command::Restore(read_name(text, behind)?)),
+        Verb::Mark => Ok(Command::Mark(read_name(text, after)?)),
+        Verb::Restore => Ok(Command::Restore(read_name(text, after)?)),
         Verb::At => {
-            let (name, query) = read_query_at(text, behind)?;
+            let (name, query) = read_query_at(text, after)?;
             Ok(Command::AskAt(name, query))
         }
         Verb::Ask => Ok(Command::Ask(read_query_with(text, place, word)?)),

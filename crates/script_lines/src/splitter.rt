@@ -27,7 +27,7 @@ impl Model for Splitter {
     ghost invariant = { λ s. s.at ≤ length s.vec.items };
 }
 
-/// The number of bytes in front of the first line feed, and `None` where there is none.
+/// The number of bytes before the first line feed, and `None` where there is none.
 fn line_len(text: &[u8]) -> Option<usize>
     ensures more { IfSome result (λ len. (rest : List ℕ)
         → parts_of (text.now ++ rest) ≡ take len text.now ∷ parts_of (drop (len + 1) text.now ++ rest)) }
@@ -43,11 +43,11 @@ fn line_len(text: &[u8]) -> Option<usize>
 }
 
 impl Splitter {
-    /// The splitter of a text of which no piece has come. It takes no memory yet, so this is always `Ok`.
+    /// The splitter of a text of which no piece has come.
     ///
     /// # Errors
     ///
-    /// None: the result has the form of the other calls.
+    /// [`OutOfMemory`] where there is no memory for it; it takes none yet.
     pub fn new(alloc: Global) -> Result<Splitter, OutOfMemory>
         ensures { IfOk result (λ splitter. splitter ≡ []) }
     {
@@ -94,7 +94,7 @@ impl Splitter {
         ensures whole { IfOk result (λ taken. IfSome taken (λ item. whole_items_of self.old ≡ item ∷ whole_items_of self.new)) }
         ensures items { IfOk result (λ taken. IfSome taken (λ item. items_of self.old ≡ item ∷ items_of self.new)) }
 
-        // The same holds with whatever comes behind.
+        // The same holds with whatever comes after.
         ensures whole_more { IfOk result (λ taken. IfSome taken (λ item. (rest : List ℕ)
             → whole_items_of (self.old ++ rest) ≡ item ∷ whole_items_of (self.new ++ rest))) }
         ensures items_more { IfOk result (λ taken. IfSome taken (λ item. (rest : List ℕ)

@@ -124,7 +124,7 @@ moved (t ∷ ts) (u ∷ us) s nodes end end' f same h =
     token_moved s nodes end end' t.place u.place t.len u.len t.kind u.kind ts us f same.0 same.1
     (λ v n a b. moved ts us v n a b f same.1) h
 
--- a blank in front
-pub read_behind_blank : (text : List ℕ) (f : Tree) → reading_of text ≡ Ok f → reading_of (32 ∷ text) ≡ Ok f
+-- a leading blank
+pub read_after_blank : (text : List ℕ) (f : Tree) → reading_of text ≡ Ok f → reading_of (32 ∷ text) ≡ Ok f
 unfolding reading_of
-read_behind_blank text f h = moved (tokens text 0 0) (tokens text 0 1) first_stage 0 0 0 f (tokens_same text 0 0 1) h
+read_after_blank text f h = moved (tokens text 0 0) (tokens text 0 1) first_stage 0 0 0 f (tokens_same text 0 0 1) h

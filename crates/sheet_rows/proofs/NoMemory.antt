@@ -1,4 +1,4 @@
--- What a line gives as a row is no want of memory.
+-- What a line gives as a row is never out of memory.
 use Rattle.std.proofs.Common.{◌≡◌, ◌≢◌, ℕ, Bool, true, false, cond, List, [], ◌∷◌, ◌+◌, length, drop, Result, Ok, Err, IfErr, refl, subst}
 use Rattle.std.specs.Prelude.{codes, bytes_eq}
 use Rattle.decimal18.specs.Bound.{Bound}
@@ -14,7 +14,7 @@ use Rattle.formula_ast.proofs.NoMemory.{never_memory as formula_never}
 use Rattle.line_words.specs.Words.{Word, written_part, words_from}
 use Rattle.type_b.specs.Shapes.{checked}
 use Rattle.type_b.specs.declared.shape.ShapeFault.{ShapeFault}
-use Rattle.sheet_rows.specs.Reading.{Read, then_read, plain_word, number_in, number_word, is_other_shape, is_degrees_word, is_other_kind, other_word, std_shape, shape_word, ended, shape_checked, given_of, past_blanks, front_name, name_at, begins_equals, equals_at, formula_fault, formula_in, formula_at, let_of, row_at, row_read}
+use Rattle.sheet_rows.specs.Reading.{Read, then_read, plain_word, number_in, number_word, is_other_shape, is_degrees_word, is_other_kind, other_word, std_shape, shape_word, ended, shape_checked, given_of, past_blanks, leading_name, name_at, begins_equals, equals_at, formula_fault, formula_in, formula_at, let_of, row_at, row_read}
 use Rattle.sheet_rows.specs.declared.row.Row.{Row as CodeRow}
 use Rattle.sheet_rows.specs.declared.fault.RowFault.{RowFault}
 use Rattle.sheet_rows.specs.declared.fault.RowFault.TheVariants.{Syntax, NotNumber, NumberRange, UnknownFunction, BadPower, TooDeep, TooManyNodes, Negative, NotBuilt, OutOfMemory}
@@ -111,7 +111,7 @@ no_formula_memory text fault h e = formula_never text (rw e at h)
 
 let_failed : (line : List ℕ) (at : ℕ) → IfFailed (let_of line at)
 let_failed line at =
-    then_failed (name_at line (past_blanks line at)) _ (cond_failed (is_plain_name (front_name (drop (past_blanks line at) line))) _ (Err (Syntax (past_blanks line at + 1))) tt tt) (λ name.
+    then_failed (name_at line (past_blanks line at)) _ (cond_failed (is_plain_name (leading_name (drop (past_blanks line at) line))) _ (Err (Syntax (past_blanks line at + 1))) tt tt) (λ name.
     then_failed (equals_at line (past_blanks line name.at)) _ (cond_failed (begins_equals (drop (past_blanks line name.at) line)) _ (Err (Syntax (past_blanks line name.at + 1))) tt tt) (λ start.
     then_failed (formula_at line start) _ (formula_failed start (reading_of (drop start line)) (no_formula_memory (drop start line))) (λ f. tt)))
 

@@ -8,7 +8,7 @@ use Rattle.formula_ast.specs.Trees.{Tree}
 use Rattle.formula_ast.specs.Names.{begins_name}
 use Rattle.formula_ast.specs.Tokens.{is_blank, goes_on_run, with_point, point_len, sign_len, with_letter, exponent_len, literal_len, len_of, kind_of, Token, tokens}
 use Rattle.formula_ast.specs.Machine.{Stage, AtOperand, AtAtom, AtEnd, AtExponent, first_stage, trees, step, finish}
-use Rattle.formula_ast.specs.Reading.{operand_fault, exponent_fault, word_fault, is_too_deep, or_else, refusal, behind_glued, syntax_place, opens_next, at_end, unless_refused, goes_on, node_count, reading, reading_of}
+use Rattle.formula_ast.specs.Reading.{operand_fault, exponent_fault, word_fault, is_too_deep, or_else, refusal, after_glued, syntax_place, opens_next, at_end, unless_refused, goes_on, node_count, reading, reading_of}
 use Rattle.formula_ast.specs.Answers.{Fails}
 use Rattle.formula_ast.specs.declared.token.Kind.{Kind}
 use Rattle.formula_ast.specs.declared.token.Kind.TheVariants.{Number as NumberToken, Name, Joins, Hat, Open, Close, Glued, Wrong}
@@ -58,12 +58,12 @@ literal_len_le : (text : List ℕ) → literal_len text ≤ length text
 literal_len_le text =
     let whole : ℕ = prefix_len is_ascii_digit text in
     let rest : List ℕ = drop whole text in
-    let behind : ℕ = point_len rest in
+    let after : ℕ = point_len rest in
     let a : whole ≤ length text = prefix_len-le-length is_ascii_digit text in
     let b : length rest ≡ length text - whole = length-drop whole text in
-    let c : behind ≤ length rest = point_len_le rest in
-    let d : length (drop behind rest) ≡ length rest - behind = length-drop behind rest in
-    let e : exponent_len (drop behind rest) ≤ length (drop behind rest) = exponent_len_le (drop behind rest) in
+    let c : after ≤ length rest = point_len_le rest in
+    let d : length (drop after rest) ≡ length rest - after = length-drop after rest in
+    let e : exponent_len (drop after rest) ≤ length (drop after rest) = exponent_len_le (drop after rest) in
     omega (arith, a, b, c, d, e)
 
 len_of_le : (text : List ℕ) → len_of text ≤ length text
@@ -74,7 +74,7 @@ len_of_le (byte ∷ bytes) =
     (cond_le (begins_name byte) (prefix_len goes_on_run (byte ∷ bytes)) 1 (suc (length bytes))
     (prefix_len-le-length goes_on_run (byte ∷ bytes)) (omega arith))
 
--- each token ends at this place or in front of it
+-- each token ends at this place or before it
 abbrev pub AllWithin : ℕ → List Token → Type 0
 AllWithin most [] = Unit {0}
 AllWithin most (t ∷ ts) = (t.place + t.len ≤ most) × AllWithin most ts
@@ -139,7 +139,7 @@ refusal_at s nodes at most k opens h =
     or_at (word_fault s at k opens) _ most (word_at s at most k opens h)
     (cond_at (is_too_deep s k) (Some (TooDeep at)) _ most h (cond_at _ (Some (TooMany at)) None most h tt))
 
-glued_le : (k : Kind) (len : ℕ) → behind_glued k len ≤ len
+glued_le : (k : Kind) (len : ℕ) → after_glued k len ≤ len
 glued_le Glued len = omega arith
 glued_le (NumberToken value power) len = omega arith
 glued_le (Name name) len = omega arith

@@ -8,7 +8,7 @@ use Rattle.std.proofs.lemmas.Bool.Decides.{nat_tests}
 use Rattle.std.proofs.lemmas.Fmt.{digits_decimal, decimal_nonempty}
 use Rattle.std.proofs.lemmas.List.Folds.{list_all-append}
 use Rattle.decimal18.specs.Bound.{Bound, IsBound}
-use Rattle.decimal18.specs.Text.{last_digits, sign_of, behind_point, text_of}
+use Rattle.decimal18.specs.Text.{last_digits, sign_of, after_point, text_of}
 use Rattle.decimal18.proofs.LiteralDigits.{numerals, cut_true, both_true}
 use Rattle.formula_ast.specs.Names.{begins_name, goes_on_name, is_plain_name}
 use Rattle.formula_ast.specs.Tokens.{goes_on_run}
@@ -80,7 +80,7 @@ last_plain (suc p) n =
       digit : (d : ℕ) → d < 10 → is_ascii_digit (48 + d) ≡ true
       digit d below = grind (arith, nat_tests)
 
-point_plain : (p n : ℕ) → ArePlain (behind_point p n)
+point_plain : (p n : ℕ) → ArePlain (after_point p n)
 point_plain zero n = refl
 point_plain (suc p) n = last_plain (suc p) n
 
@@ -94,8 +94,8 @@ sign_plain (negsuc n) = refl
 some_append : (xs ys : List ℕ) → 0 < length ys → 0 < length (xs ++ ys)
 some_append xs ys some = omega (arith, length-append xs ys, some)
 
-some_front : (xs ys : List ℕ) → 0 < length xs → 0 < length (xs ++ ys)
-some_front xs ys some = omega (arith, length-append xs ys, some)
+some_first : (xs ys : List ℕ) → 0 < length xs → 0 < length (xs ++ ys)
+some_first xs ys some = omega (arith, length-append xs ys, some)
 
 whole_small : (b : Bound) → IsBound b → unsigned_abs b.coefficient / 10 ^ b.places < 2 ^ 64
 whole_small b h = omega (arith, h.digits, div-le_self (unsigned_abs b.coefficient) (10 ^ b.places))
@@ -104,7 +104,7 @@ pub text_plain : (b : Bound) → IsBound b → ArePlain (text_of b)
 text_plain b h =
     let size : ℕ = unsigned_abs b.coefficient in
     let whole : ℕ = size / 10 ^ b.places in
-    plain_append (sign_of b.coefficient ++ decimal whole) (behind_point b.places size)
+    plain_append (sign_of b.coefficient ++ decimal whole) (after_point b.places size)
     (plain_append (sign_of b.coefficient) (decimal whole) (sign_plain b.coefficient) (decimal_plain whole (whole_small b h)))
     (point_plain b.places size)
 
@@ -112,7 +112,7 @@ pub text_some : (b : Bound) → IsBound b → 0 < length (text_of b)
 text_some b h =
     let size : ℕ = unsigned_abs b.coefficient in
     let whole : ℕ = size / 10 ^ b.places in
-    some_front (sign_of b.coefficient ++ decimal whole) (behind_point b.places size)
+    some_first (sign_of b.coefficient ++ decimal whole) (after_point b.places size)
     (some_append (sign_of b.coefficient) (decimal whole) (decimal_nonempty whole (whole_small b h)))
 
 pub exponent_plain : (k : ℤ) → unsigned_abs k < 2 ^ 64 → ArePlain (exponent_text k)

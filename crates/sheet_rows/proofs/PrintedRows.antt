@@ -11,27 +11,27 @@ use Rattle.decimal18.proofs.LiteralDigits.{cut_true}
 use Rattle.decimal18.proofs.TextAgain.{read_again as bound_again}
 use Rattle.formula_ast.specs.Names.{is_plain_name}
 use Rattle.formula_ast.specs.Tokens.{is_blank}
-use Rattle.formula_ast.specs.Fronts.{IsTight}
+use Rattle.formula_ast.specs.FirstTokens.{IsTight}
 use Rattle.formula_ast.specs.Trees.{Tree}
 use Rattle.formula_ast.specs.Reading.{reading_of}
 use Rattle.formula_ast.specs.Printing.{print}
 use Rattle.formula_ast.proofs.Again.{read_regular}
 use Rattle.formula_ast.proofs.PrintedNumbers.{run_whole}
 use Rattle.line_words.specs.Words.{Word, is_in_word, words, written_part}
-use Rattle.line_words.proofs.WordSteps.{front_words, drop_twice}
+use Rattle.line_words.proofs.WordSteps.{first_words, drop_twice}
 use Rattle.type_b.specs.Shapes.{HasDecimals, checked}
 use Rattle.type_b.specs.declared.shape.Shape.{Shape}
 use Rattle.type_b.specs.declared.shape.Shape.TheVariants.{Exact, Std}
 use Rattle.type_b.specs.declared.shape.Dof.TheVariants.{Inf}
 use Rattle.sheet_rows.specs.Rows.{Row, Given, Formula}
-use Rattle.sheet_rows.specs.Reading.{shape_word, given_of, past_blanks, front_name, is_in_name, begins_equals, let_of, row_at, row_from, row_read}
+use Rattle.sheet_rows.specs.Reading.{shape_word, given_of, past_blanks, leading_name, is_in_name, begins_equals, let_of, row_at, row_from, row_read}
 use Rattle.sheet_rows.specs.Regular.{IsRegular}
 use Rattle.sheet_rows.specs.Printing.{shape_text, printed}
-use Rattle.sheet_rows.proofs.MovedPlaces.{read_behind_blank}
+use Rattle.sheet_rows.proofs.MovedPlaces.{read_after_blank}
 use Rattle.sheet_rows.proofs.PlainBytes.{ArePlain, all_in_word, all_no_hash, all_in_name, names_plain, name_some, text_plain, text_some}
-use Rattle.sheet_rows.proofs.SolidTexts.{IsSolid, solid_written, solid_behind, solid_word, print_solid}
+use Rattle.sheet_rows.proofs.SolidTexts.{IsSolid, solid_written, solid_after, solid_word, print_solid}
 
--- ---- the word at the front
+-- ---- the word at the start
 no_blank : (t : Bool) → not t ≡ true → t ≡ false
 no_blank false h = refl
 no_blank true h = absurd (cc)
@@ -45,11 +45,11 @@ longer : (w rest : List ℕ) → 0 < length w → 0 < length (w ++ rest)
 longer [] rest some = absurd (omega arith)
 longer (byte ∷ bytes) rest some = omega arith
 
--- a word with a blank or nothing behind it
-front_word : (w rest : List ℕ) (at : ℕ) → list_all is_in_word w ≡ true → 0 < length w → prefix_len is_in_word rest ≡ 0 →
+-- a word with a blank or nothing after it
+one_word : (w rest : List ℕ) (at : ℕ) → list_all is_in_word w ≡ true → 0 < length w → prefix_len is_in_word rest ≡ 0 →
     words (w ++ rest) 0 at ≡ record { place = at; text = w } ∷ words rest 0 (at + length w)
-front_word w rest at all some none =
-    front_words (w ++ rest) at (tight w rest all some) (longer w rest some)
+one_word w rest at all some none =
+    first_words (w ++ rest) at (tight w rest all some) (longer w rest some)
     ∙ ap (λ n. record { place = at; text = take n (w ++ rest) } ∷ words (drop n (w ++ rest)) 0 (at + n)) (run_whole is_in_word w rest all none)
     ∙ ap (λ t. record { place = at; text = t } ∷ words (drop (length w) (w ++ rest)) 0 (at + length w)) (take-append_seam w rest)
     ∙ ap (λ r. record { place = at; text = w } ∷ words r 0 (at + length w)) (drop-append_seam w rest)
@@ -57,7 +57,7 @@ front_word w rest at all some none =
 last_word : (w : List ℕ) (at : ℕ) → list_all is_in_word w ≡ true → 0 < length w →
     words w 0 at ≡ record { place = at; text = w } ∷ []
 last_word w at all some =
-    ap (λ t. words t 0 at) (sym (append-nil w)) ∙ front_word w [] at all some refl
+    ap (λ t. words t 0 at) (sym (append-nil w)) ∙ one_word w [] at all some refl
 
 -- ---- inputs
 shape_again : (s : Shape) (end at : ℕ) → HasDecimals s → shape_word end (words (shape_text s) 0 at) ≡ Ok (record { item = s; rest = [] })
@@ -66,7 +66,7 @@ shape_again (Std u) end at h =
     let plain : ArePlain (text_of u) = text_plain u h.bound in
     let parts : words (codes "std" ++ 32 ∷ text_of u) 0 at
     ≡ record { place = at; text = codes "std" } ∷ record { place = at + 3 + 1; text = text_of u } ∷ []
-    = front_word (codes "std") (32 ∷ text_of u) at refl (omega arith) refl
+    = one_word (codes "std") (32 ∷ text_of u) at refl (omega arith) refl
     ∙ ap (λ ws. record { place = at; text = codes "std" } ∷ ws) (last_word (text_of u) (at + 3 + 1) (all_in_word (text_of u) plain) (text_some u h.bound)) in
     ap (λ ws. shape_word end ws) parts ∙ number (text_of u) u (bound_again u h.bound h.canonical) where
       number : (t : List ℕ) (u : Bound) → parsed t ≡ Ok u →
@@ -85,10 +85,10 @@ given_words : (name number shape : List ℕ) → list_all is_in_word name ≡ tr
     ≡ record { place = 0; text = codes "given" } ∷ record { place = 6; text = name } ∷ record { place = 6 + length name + 1; text = number }
     ∷ words shape 0 (6 + length name + 1 + length number + 1)
 given_words name number shape a b c d =
-    front_word (codes "given") (32 ∷ (name ++ 32 ∷ (number ++ 32 ∷ shape))) 0 refl (omega arith) refl
-    ∙ ap (λ ws. record { place = 0; text = codes "given" } ∷ ws) (front_word name (32 ∷ (number ++ 32 ∷ shape)) 6 a b refl)
+    one_word (codes "given") (32 ∷ (name ++ 32 ∷ (number ++ 32 ∷ shape))) 0 refl (omega arith) refl
+    ∙ ap (λ ws. record { place = 0; text = codes "given" } ∷ ws) (one_word name (32 ∷ (number ++ 32 ∷ shape)) 6 a b refl)
     ∙ ap (λ ws. record { place = 0; text = codes "given" } ∷ record { place = 6; text = name } ∷ ws)
-    (front_word number (32 ∷ shape) (6 + length name + 1) c d refl)
+    (one_word number (32 ∷ shape) (6 + length name + 1) c d refl)
 
 -- the printed texts, grouped from their ends
 abbrev given_line : List ℕ → List ℕ → List ℕ → List ℕ
@@ -110,7 +110,7 @@ given_row name e s plain decimal has fine =
     (shape_again s (length line) (6 + length name + 1 + length number + 1) has) fine
 
 -- ---- formulas
-let_again : (line name : List ℕ) (f : Tree) (at p q : ℕ) → past_blanks line at ≡ p → front_name (drop p line) ≡ name →
+let_again : (line name : List ℕ) (f : Tree) (at p q : ℕ) → past_blanks line at ≡ p → leading_name (drop p line) ≡ name →
     is_plain_name name ≡ true → past_blanks line (p + length name) ≡ q → begins_equals (drop q line) ≡ true →
     reading_of (drop (q + 1) line) ≡ Ok f → let_of line at ≡ Ok (Formula name f)
 let_again line name f at p q start word plain gap equals read = rw (start, word, plain, gap, equals, read) refl
@@ -120,13 +120,13 @@ no_blanks [] rest all some = absurd (omega arith)
 no_blanks (byte ∷ bytes) rest all some =
     rw (no_blank (is_blank byte) (cut_true (is_in_word byte) (list_all is_in_word bytes) all).0) refl
 
-name_again : (name rest : List ℕ) → list_all is_in_name name ≡ true → prefix_len is_in_name rest ≡ 0 → front_name (name ++ rest) ≡ name
+name_again : (name rest : List ℕ) → list_all is_in_name name ≡ true → prefix_len is_in_name rest ≡ 0 → leading_name (name ++ rest) ≡ name
 name_again name rest all none =
     ap (λ n. take n (name ++ rest)) (run_whole is_in_name name rest all none) ∙ take-append_seam name rest
 
--- what stands behind the name
-behind_name : (name rest : List ℕ) (n : ℕ) → drop (4 + length name + n) (codes "let " ++ (name ++ rest)) ≡ drop n rest
-behind_name name rest n =
+-- what stands after the name
+after_name : (name rest : List ℕ) (n : ℕ) → drop (4 + length name + n) (codes "let " ++ (name ++ rest)) ≡ drop n rest
+after_name name rest n =
     let line : List ℕ = codes "let " ++ (name ++ rest) in
     sym (drop_twice line (4 + length name) n)
     ∙ ap (λ t. drop n t) (sym (drop_twice line 4 (length name)) ∙ drop-append_seam name rest)
@@ -139,32 +139,32 @@ formula_row name f plain read =
     let all : ArePlain name = names_plain name plain in
     let some : 0 < length name = name_some name plain in
     let start : past_blanks line 3 ≡ 4 = ap (λ n. 3 + (1 + n)) (no_blanks name rest (all_in_word name all) some) in
-    let behind : drop (4 + length name) line ≡ rest
-    = ap (λ n. drop n line) (omega arith) ∙ behind_name name rest 0 in
-    let gap : past_blanks line (4 + length name) ≡ 4 + length name + 1 = ap (λ t. 4 + length name + prefix_len is_blank t) behind in
-    let equals : begins_equals (drop (4 + length name + 1) line) ≡ true = ap begins_equals (behind_name name rest 1) in
+    let after : drop (4 + length name) line ≡ rest
+    = ap (λ n. drop n line) (omega arith) ∙ after_name name rest 0 in
+    let gap : past_blanks line (4 + length name) ≡ 4 + length name + 1 = ap (λ t. 4 + length name + prefix_len is_blank t) after in
+    let equals : begins_equals (drop (4 + length name + 1) line) ≡ true = ap begins_equals (after_name name rest 1) in
     let text : drop (4 + length name + 1 + 1) line ≡ 32 ∷ print f
-    = ap (λ n. drop n line) (omega arith) ∙ behind_name name rest 2 in
-    ap (λ ws. row_at line ws) (front_word (codes "let") (32 ∷ (name ++ rest)) 0 refl (omega arith) refl)
+    = ap (λ n. drop n line) (omega arith) ∙ after_name name rest 2 in
+    ap (λ ws. row_at line ws) (one_word (codes "let") (32 ∷ (name ++ rest)) 0 refl (omega arith) refl)
     ∙ let_again line name f 3 4 (4 + length name + 1) start (name_again name rest (all_in_name name all) refl) plain gap equals
-    (ap reading_of text ∙ read_behind_blank (print f) f read)
+    (ap reading_of text ∙ read_after_blank (print f) f read)
 
 -- ---- rows
 given_solid : (name : List ℕ) (e : Bound) (s : Shape) → is_plain_name name ≡ true → IsDecimal e → HasDecimals s → IsSolid (given_line name (text_of e) (shape_text s))
 given_solid name e s plain decimal stated =
-    solid_behind (codes "given ") _ refl
-    (solid_behind name _ (all_no_hash name (names_plain name plain))
-    (solid_behind (codes " ") _ refl
-    (solid_behind (text_of e) _ (all_no_hash (text_of e) (text_plain e decimal.bound))
-    (solid_behind (codes " ") (shape_text s) refl (shape_solid s stated))))) where
+    solid_after (codes "given ") _ refl
+    (solid_after name _ (all_no_hash name (names_plain name plain))
+    (solid_after (codes " ") _ refl
+    (solid_after (text_of e) _ (all_no_hash (text_of e) (text_plain e decimal.bound))
+    (solid_after (codes " ") (shape_text s) refl (shape_solid s stated))))) where
       shape_solid : (s : Shape) → HasDecimals s → IsSolid (shape_text s)
       shape_solid Exact h = record { no_hash = refl; ends = refl; some = omega arith }
-      shape_solid (Std u) h = solid_behind (codes "std ") (text_of u) refl (solid_word (text_of u) (text_plain u h.bound) (text_some u h.bound))
+      shape_solid (Std u) h = solid_after (codes "std ") (text_of u) refl (solid_word (text_of u) (text_plain u h.bound) (text_some u h.bound))
 
 formula_solid : (name : List ℕ) (f : Tree) → is_plain_name name ≡ true → IsSolid (print f) → IsSolid (let_line name (print f))
 formula_solid name f plain h =
-    solid_behind (codes "let ") _ refl
-    (solid_behind name _ (all_no_hash name (names_plain name plain)) (solid_behind (codes " = ") (print f) refl h))
+    solid_after (codes "let ") _ refl
+    (solid_after name _ (all_no_hash name (names_plain name plain)) (solid_after (codes " = ") (print f) refl h))
 
 given_text : (name : List ℕ) (e : Bound) (s : Shape) → printed (Given name e s Inf) ≡ given_line name (text_of e) (shape_text s)
 given_text name e s = grouped (codes "given ") name (codes " ") (text_of e) (codes " ") (shape_text s) where

@@ -18,7 +18,7 @@ use Rattle.type_b.specs.Shapes.{HasDecimals, checked}
 use Rattle.type_b.specs.declared.shape.Shape.TheVariants.{Exact}
 use Rattle.type_b.specs.declared.shape.ShapeFault.{ShapeFault}
 use Rattle.sheet_rows.specs.Rows.{Row}
-use Rattle.sheet_rows.specs.Reading.{Read, then_read, plain_word, number_in, number_word, is_other_shape, is_other_kind, other_word, std_shape, shape_word, ended, shape_checked, given_of, past_blanks, front_name, name_at, equals_at, formula_in, formula_at, let_of, row_at, row_read}
+use Rattle.sheet_rows.specs.Reading.{Read, then_read, plain_word, number_in, number_word, is_other_shape, is_other_kind, other_word, std_shape, shape_word, ended, shape_checked, given_of, past_blanks, leading_name, name_at, equals_at, formula_in, formula_at, let_of, row_at, row_read}
 use Rattle.sheet_rows.specs.Regular.{IsRegular}
 use Rattle.sheet_rows.specs.declared.fault.RowFault.TheVariants.{Syntax}
 
@@ -105,7 +105,7 @@ formula_ok at (Err fault) h = tt
 
 let_ok : (line : List ℕ) (at : ℕ) → IfOk (let_of line at) IsRegular
 let_ok line at =
-    let name : List ℕ = front_name (drop (past_blanks line at) line) in
+    let name : List ℕ = leading_name (drop (past_blanks line at) line) in
     then_ok (λ x. is_plain_name x.item ≡ true) IsRegular (name_at line (past_blanks line at)) _
     (cond_ok (λ x. is_plain_name x.item ≡ true) (is_plain_name name) (Ok (record { item = name; at = past_blanks line at + length name }))
     (Err (Syntax (past_blanks line at + 1))) (λ plain. plain) tt) (λ x plain.

@@ -73,8 +73,8 @@ module _ (row : Row) where
   known_from p (r ∷ rs) there h = from_by p (is_named own r) r rs (rows_with row rs) there (known_from p rs) h
 
   -- ---- the rows before
-  behind_same : (before : List Row) (r : Row) → own ≡ name_of r → (n : List ℕ) → is_quantity_in (before ++ row ∷ []) n ≡ is_quantity_in (before ++ r ∷ []) n
-  behind_same before r e n =
+  after_same : (before : List Row) (r : Row) → own ≡ name_of r → (n : List ℕ) → is_quantity_in (before ++ row ∷ []) n ≡ is_quantity_in (before ++ r ∷ []) n
+  after_same before r e n =
       quantity_append before (row ∷ []) n ∙ ap (λ m. is_quantity_in before n || (bytes_eq n m || false)) e
       ∙ sym (quantity_append before (r ∷ []) n)
 
@@ -94,7 +94,7 @@ module _ (row : Row) where
       → are_earlier before (cond t (row ∷ rs) (r ∷ rows_with row rs)) ≡ true
   earlier_by before true r rs e h there rest k =
       and_both (are_known before row) (are_earlier (before ++ row ∷ []) rs) (sym (here before rs) ∙ k)
-      (earlier_same (before ++ row ∷ []) (before ++ r ∷ []) rs (behind_same before r (same_name own (name_of r) e))
+      (earlier_same (before ++ row ∷ []) (before ++ r ∷ []) rs (after_same before r (same_name own (name_of r) e))
       ∙ and_right (are_known before r) (are_earlier (before ++ r ∷ []) rs) h)
   earlier_by before false r rs e h there rest k =
       and_both (are_known before r) (are_earlier (before ++ r ∷ []) (rows_with row rs)) (and_left (are_known before r) (are_earlier (before ++ r ∷ []) rs) h)

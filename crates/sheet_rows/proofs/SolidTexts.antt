@@ -49,8 +49,8 @@ written_append (x ∷ xs) ys some ends =
     let more : 0 < length (xs ++ ys) = omega (arith, length-append xs ys, some) in
     written_step (is_blank x) (written_len (xs ++ ys)) (length (xs ++ ys)) (written_append xs ys some ends) more
 
-pub solid_behind : (xs ys : List ℕ) → list_all is_no_hash xs ≡ true → IsSolid ys → IsSolid (xs ++ ys)
-solid_behind xs ys none h = record {
+pub solid_after : (xs ys : List ℕ) → list_all is_no_hash xs ≡ true → IsSolid ys → IsSolid (xs ++ ys)
+solid_after xs ys none h = record {
   no_hash = list_all-append is_no_hash xs ys ∙ both_true _ _ none h.no_hash;
   ends = written_append xs ys h.some h.ends;
   some = omega (arith, length-append xs ys, h.some);
@@ -81,7 +81,7 @@ solid_word text all some = record {
 guarded_solid : (t : Bool) (text : List ℕ) → IsSolid text → IsSolid (cond t (codes "(" ++ text ++ codes ")") text)
 guarded_solid false text h = h
 guarded_solid true text h =
-    solid_behind (codes "(" ++ text) (codes ")") (list_all-append is_no_hash (codes "(") text ∙ h.no_hash) (record { no_hash = refl; ends = refl; some = omega arith })
+    solid_after (codes "(" ++ text) (codes ")") (list_all-append is_no_hash (codes "(") text ∙ h.no_hash) (record { no_hash = refl; ends = refl; some = omega arith })
 
 guard_solid : (least : ℕ) (f : Tree) (text : List ℕ) → IsSolid text → IsSolid (guarded least f text)
 guard_solid least f text h = guarded_solid (nat_lt (binding f) least) text h
@@ -102,14 +102,14 @@ no_hash_append xs ys h k = list_all-append is_no_hash xs ys ∙ both_true _ _ h 
 pub print_solid : (f : Tree) → IsRegular f → IsSolid (print f)
 print_solid (Number q) h = solid_word (text_of q) (text_plain q h.bound) (text_some q h.bound)
 print_solid (Variable n) h = solid_word n (runs_plain n h.token.run) (named_some n h.token.named)
-print_solid (Opposite a) h = solid_behind (codes "-") (guarded 2 a (print a)) refl (guard_solid 2 a (print a) (print_solid a h))
+print_solid (Opposite a) h = solid_after (codes "-") (guarded 2 a (print a)) refl (guard_solid 2 a (print a) (print_solid a h))
 print_solid (Joined s a b) h =
-    solid_behind (guarded (tight s) a (print a) ++ symbol s) (guarded (suc (tight s)) b (print b))
+    solid_after (guarded (tight s) a (print a) ++ symbol s) (guarded (suc (tight s)) b (print b))
     (no_hash_append (guarded (tight s) a (print a)) (symbol s)
     (guard_solid (tight s) a (print a) (print_solid a h.0)).no_hash (symbol_no_hash s))
     (guard_solid (suc (tight s)) b (print b) (print_solid b h.1))
 print_solid (Raised a k) h =
     let small : unsigned_abs k < 2 ^ 64 = omega (arith, h.1.1) in
-    solid_behind (guarded 4 a (print a) ++ codes "^") (exponent_text k)
+    solid_after (guarded 4 a (print a) ++ codes "^") (exponent_text k)
     (no_hash_append (guarded 4 a (print a)) (codes "^") (guard_solid 4 a (print a) (print_solid a h.0)).no_hash refl)
     (solid_word (exponent_text k) (exponent_plain k small) (exponent_some k small))

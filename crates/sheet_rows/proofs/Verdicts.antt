@@ -51,7 +51,7 @@ known_is : (sheet : Sheet) (own n : List ℕ) → is_known_with sheet own n ≡ 
 known_is sheet own n = ap (λ b. b || bytes_eq n own) (position-any (is_named n) sheet.rows)
 
 -- ---- the row added
--- rows, and one behind them
+-- rows, and one after them
 abbrev pub with_last : List Row → Row → List Row
 with_last xs row = xs ++ row ∷ []
 

@@ -18,7 +18,7 @@ abbrev pub row_given : Result RowCode RowFault → Read Row
 row_given (Ok row) = Ok (row_of row)
 row_given (Err fault) = Err fault
 
--- the answer is what the line gives by the definitions, or a want of memory
+-- the answer is what the line gives by the definitions, or out of memory
 abbrev pub GivesTree : Result Formula RowFault → Read Tree → Type 0
 GivesTree answer r = Gives OutOfMemory (tree_read answer) r
 

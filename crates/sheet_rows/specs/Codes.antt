@@ -1,4 +1,4 @@
--- Rows and sheets have codes, by which a proof tells them apart: a formula is written behind its parts, without
+-- Rows and sheets have codes, by which a proof tells them apart: a formula is written after its parts, without
 -- parentheses.
 use Rattle.std.specs.Prelude.{◌≡◌, ℕ, zero, suc, ℤ, List, [], ◌∷◌, ◌++◌, Option, Some, None, refl}
 use Rattle.std.specs.Coded.{Coded, code_by, coded×, coded⊎, coded_list, coded_option, coded_ℕ, coded_ℤ}

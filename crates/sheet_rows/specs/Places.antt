@@ -16,7 +16,7 @@ abbrev pub verdict_of : {A : Type 0} → Result A EditFault → Sheet → Verdic
 verdict_of (Ok done) new = Ok new
 verdict_of (Err fault) new = Err fault
 
--- the answer is the verdict, or a want of memory
+-- the answer is the verdict, or out of memory
 abbrev pub IsVerdict : {A : Type 0} → Result A EditFault → Sheet → Verdict → Type 0
 IsVerdict result new verdict = Gives OutOfMemory (verdict_of result new) verdict
 

@@ -1,6 +1,6 @@
 -- What a line gives as a row: the line without its comment and its last blanks. It is read from left to right,
 -- and the first word or token that breaks a rule decides; its place is counted from 1. Where the line ends too
--- early, the place is the one behind its end.
+-- early, the place is the one after its end.
 use Rattle.std.specs.Prelude.{ℕ, ◌+◌, ◌==◌, ◌||◌, Bool, false, not, if◌then◌else◌, List, [], ◌∷◌, length, take, drop, Result, Ok, Err, bytes_eq, codes}
 use Rattle.std.specs.List.{prefix_len}
 use Rattle.decimal18.specs.Bound.{Bound}
@@ -31,7 +31,7 @@ then_read (Err fault) next = Err fault
 then_read (Ok x) next = next x
 
 -- ---- words. `end` is the length of the line
--- what was read, and the words behind it
+-- what was read, and the words after it
 pub record Front (A : Type 0) : Type 0 where
   pub item : A
   pub rest : List Word
@@ -69,7 +69,7 @@ abbrev pub other_word : Bool → ℕ → RowFault
 other_word other place = if other then NotBuilt else Syntax (place + 1)
 
 -- ---- inputs
--- the shape `std`, with the standard uncertainty behind it
+-- the shape `std`, with the standard uncertainty after it
 abbrev pub std_shape : Front Bound → Read (Front Shape)
 std_shape u = Ok (record { item = Std u.item; rest = u.rest })
 
@@ -100,12 +100,12 @@ given_of end ws =
     then_read (shape_checked (checked shape.item)) (λ fine. Ok (Given name.item estimate.item shape.item Inf))))))
 
 -- ---- formulas: the blanks round `=` may be missing
--- what was read, and the place behind it
+-- what was read, and the place after it
 pub record Behind (A : Type 0) : Type 0 where
   pub item : A
   pub at : ℕ
 
--- the place behind the blanks that stand at the place `at`
+-- the place after the blanks that stand at the place `at`
 abbrev pub past_blanks : List ℕ → ℕ → ℕ
 past_blanks line at = at + prefix_len is_blank (drop at line)
 
@@ -113,22 +113,22 @@ past_blanks line at = at + prefix_len is_blank (drop at line)
 abbrev pub is_in_name : ℕ → Bool
 is_in_name byte = not (is_blank byte || byte == 61)
 
--- the bytes at the front that are neither blank nor `=`
-abbrev pub front_name : List ℕ → List ℕ
-front_name text = take (prefix_len is_in_name text) text
+-- the bytes at the start that are neither blank nor `=`
+abbrev pub leading_name : List ℕ → List ℕ
+leading_name text = take (prefix_len is_in_name text) text
 
 -- a plain name at the place `at`
 abbrev pub name_in : ℕ → List ℕ → Read (Behind (List ℕ))
 name_in at name = if is_plain_name name then Ok (record { item = name; at = at + length name }) else Err (Syntax (at + 1))
 
 abbrev pub name_at : List ℕ → ℕ → Read (Behind (List ℕ))
-name_at line at = name_in at (front_name (drop at line))
+name_at line at = name_in at (leading_name (drop at line))
 
 abbrev pub begins_equals : List ℕ → Bool
 begins_equals [] = false
 begins_equals (byte ∷ bytes) = byte == 61
 
--- the place behind the `=` at the place `at`
+-- the place after the `=` at the place `at`
 abbrev pub equals_at : List ℕ → ℕ → Read ℕ
 equals_at line at = if begins_equals (drop at line) then Ok (at + 1) else Err (Syntax (at + 1))
 
@@ -147,11 +147,11 @@ abbrev pub formula_in : ℕ → Result Tree FormulaFault → Read Tree
 formula_in at (Ok f) = Ok f
 formula_in at (Err fault) = Err (formula_fault at fault)
 
--- the formula behind the place `at`
+-- the formula after the place `at`
 abbrev pub formula_at : List ℕ → ℕ → Read Tree
 formula_at line at = formula_in at (reading_of (drop at line))
 
--- `NAME = FORMULA`, behind the place `at`
+-- `NAME = FORMULA`, after the place `at`
 abbrev pub let_of : List ℕ → ℕ → Read Row
 let_of line at =
     then_read (name_at line (past_blanks line at)) (λ name.

@@ -118,8 +118,9 @@ impl Sheet {
     ///
     /// # Errors
     ///
-    /// The first refusal that applies, from [`EditFault::RowsFull`] to [`EditFault::NotEarlier`], or a want
-    /// of memory, which hides neither of the first two. The sheet is then as before, and the row is dropped.
+    /// The first refusal that applies, from [`EditFault::RowsFull`] to [`EditFault::NotEarlier`], or
+    /// [`EditFault::OutOfMemory`], which hides neither of the first two. The sheet is then as before, and the
+    /// row is dropped.
     pub fn try_add(&mut self, row: Row) -> Result<(), EditFault>
         requires { IsRegular (row_of row) }
         ensures verdict { IsVerdict result self.new (verdict_add self.old (row_of row)) }
@@ -157,8 +158,9 @@ impl Sheet {
     ///
     /// # Errors
     ///
-    /// The first refusal that applies, [`EditFault::Unknown`] or [`EditFault::NotEarlier`], or a want of
-    /// memory, which does not hide that no row has the row's name. The sheet is then as before, and the row is dropped.
+    /// The first refusal that applies, [`EditFault::Unknown`] or [`EditFault::NotEarlier`], or
+    /// [`EditFault::OutOfMemory`], which does not hide that no row has the row's name. The sheet is then as
+    /// before, and the row is dropped.
     pub fn try_set(&mut self, row: Row) -> Result<Rc<Row>, EditFault>
         requires { IsRegular (row_of row) }
         ensures verdict { IsVerdict result self.new (verdict_set self.old (row_of row)) }

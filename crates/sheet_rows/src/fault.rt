@@ -2,7 +2,7 @@ use decimal18::OutOfMemory;
 use type_b::ShapeFault;
 
 /// Why a line gives no row. A place is that of the word or token that breaks a rule, counted from 1; where
-/// the line ends too early, it is the place behind its last byte that is neither blank nor in the comment.
+/// the line ends too early, it is the place after its last byte that is neither blank nor in the comment.
 #[derive(Clone, Copy, Debug, PartialEq, Eq)]
 pub enum RowFault {
     /// No row goes on with this word or token, or the line ends too early.

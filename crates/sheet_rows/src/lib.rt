@@ -29,7 +29,7 @@ pub use laws::{
 };
 pub use print::print_row;
 pub use read::read_row;
-pub use reading_laws::{printed_rows_are_read_again, rows_are_never_a_want_of_memory};
+pub use reading_laws::{printed_rows_are_read_again, rows_are_never_out_of_memory};
 pub use row::Row;
 pub use row_list::RowList;
 pub use sheet::Sheet;

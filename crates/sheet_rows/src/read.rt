@@ -42,12 +42,12 @@ fn read_written(alloc: Global, line: &[u8], at: usize) -> Result<Row, RowFault>
     let Some((place, word)) = next_word(line, at) else {
         return Err(RowFault::Syntax(line.len() + 1));
     };
-    let behind = place + word.len();
+    let after = place + word.len();
     if word == GIVEN {
-        return read_given(line, behind);
+        return read_given(line, after);
     }
     if word == LET {
-        return read_let(alloc, line, behind);
+        return read_let(alloc, line, after);
     }
     if is_other_kind(word) {
         return Err(RowFault::NotBuilt);

@@ -1,5 +1,5 @@
 //! An input: `NAME ESTIMATE exact` or `NAME ESTIMATE std UNCERTAINTY`, word by word. Each part is read from
-//! a place of the line on, and gives the place behind it. The line has no comment and no last blanks.
+//! a place of the line on, and gives the place after it. The line has no comment and no last blanks.
 
 ghost use Rattle.std.specs.Prelude.{◌≡◌, ◌≤◌, true, length, Ok, Err, IfOk, IfErr};
 ghost use Rattle.formula_ast.specs.Names.{is_plain_name};
@@ -93,13 +93,13 @@ fn read_shape(line: &[u8], at: usize) -> Result<(Shape, usize), RowFault>
     let Some((place, word)) = next_word(line, at) else {
         return Err(RowFault::Syntax(line.len() + 1));
     };
-    let behind = place + word.len();
+    let after = place + word.len();
     if word == EXACT {
-        return Ok((Shape::Exact, behind));
+        return Ok((Shape::Exact, after));
     }
     if word == STD {
-        let (u, behind) = read_number(line, behind)?;
-        return Ok((Shape::Std { u }, behind));
+        let (u, after) = read_number(line, after)?;
+        return Ok((Shape::Std { u }, after));
     }
     if is_other_shape(word) {
         return Err(RowFault::NotBuilt);
@@ -121,7 +121,7 @@ fn read_end(line: &[u8], at: usize) -> Result<(), RowFault>
     Err(RowFault::Syntax(place + 1))
 }
 
-/// The input that the words behind `given` are.
+/// The input that the words after `given` are.
 pub fn read_given(line: &[u8], at: usize) -> Result<Row, RowFault>
     requires { at ≤ length line.now }
     ensures ok { IfOk result (λ row. given_of (length line.now) (words_from line.now at) ≡ Ok (row_of row)) }

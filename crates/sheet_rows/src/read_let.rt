@@ -9,7 +9,7 @@ ghost use Rattle.formula_ast.specs.Reading.{reading_of};
 ghost use Rattle.formula_ast.specs.Views.{tree_of};
 ghost use Rattle.sheet_rows.specs.Rows.{row_of};
 ghost use Rattle.sheet_rows.specs.Regular.{IsRegular};
-ghost use Rattle.sheet_rows.specs.Reading.{is_in_name, front_name, past_blanks, name_at, begins_equals, equals_at, formula_fault, formula_at, let_of};
+ghost use Rattle.sheet_rows.specs.Reading.{is_in_name, leading_name, past_blanks, name_at, begins_equals, equals_at, formula_fault, formula_at, let_of};
 ghost use Rattle.sheet_rows.specs.Answers.{GivesTree, GivesRow};
 ghost use Rattle.sheet_rows.specs.FaultPlaces.{place_of};
 
@@ -17,18 +17,18 @@ use crate::fault::RowFault;
 use crate::row::Row;
 use decimal18::{NumFault, OutOfMemory};
 use formula_ast::{Formula, FormulaFault, Name, blanks_len, is_blank, read_formula};
-use line_words::behind;
+use line_words::after;
 use std::alloc::Global;
 use std::rc::Rc;
 
-/// Whether the byte may stand in a name that is read in front of `=`.
+/// Whether the byte may stand in a name that is read before `=`.
 fn is_in_name(byte: u8) -> bool
     ensures { result ≡ is_in_name byte }
 {
     !(is_blank(byte) || byte == b'=')
 }
 
-/// The number of bytes in front of the first one that is blank or `=`.
+/// The number of bytes before the first one that is blank or `=`.
 fn name_len(text: &[u8]) -> usize
     ensures is { result ≡ prefix_len is_in_name text.now }
     ensures within { result ≤ length text.now }
@@ -41,21 +41,21 @@ fn name_len(text: &[u8]) -> usize
     text.len()
 }
 
-/// The bytes at the front that are neither blank nor `=`.
-fn front_name(text: &[u8]) -> &[u8]
-    ensures is { result.now ≡ front_name text.now }
+/// The bytes at the start that are neither blank nor `=`.
+fn leading_name(text: &[u8]) -> &[u8]
+    ensures is { result.now ≡ leading_name text.now }
     ensures within { length result.now ≤ length text.now }
 {
     &text[..name_len(text)]
 }
 
-/// The place behind the blanks that stand at the place `at`.
+/// The place after the blanks that stand at the place `at`.
 fn past_blanks(line: &[u8], at: usize) -> usize
     requires { at ≤ length line.now }
     ensures is { result ≡ past_blanks line.now at }
     ensures within { result ≤ length line.now }
 {
-    at + blanks_len(behind(line, at))
+    at + blanks_len(after(line, at))
 }
 
 /// A plain name.
@@ -66,7 +66,7 @@ fn read_name(line: &[u8], at: usize) -> Result<(Name, usize), RowFault>
     ensures within { IfOk result (λ r. r.1 ≤ length line.now) }
     ensures plain { IfOk result (λ r. is_plain_name r.0 ≡ true) }
 {
-    let word = front_name(behind(line, at));
+    let word = leading_name(after(line, at));
     let Some(name) = Name::plain(word) else {
         return Err(RowFault::Syntax(at + 1));
     };
@@ -84,13 +84,13 @@ fn begins_equals(text: &[u8]) -> bool
     *byte == b'='
 }
 
-/// The place behind a `=`.
+/// The place after a `=`.
 fn read_equals(line: &[u8], at: usize) -> Result<usize, RowFault>
     requires { at ≤ length line.now }
     ensures is { result ≡ equals_at line.now at }
     ensures within { IfOk result (λ start. start ≤ length line.now) }
 {
-    if begins_equals(behind(line, at)) {
+    if begins_equals(after(line, at)) {
         return Ok(at + 1);
     }
     Err(RowFault::Syntax(at + 1))
@@ -119,7 +119,7 @@ fn read_rest(alloc: Global, line: &[u8], at: usize) -> Result<Formula, RowFault>
     ensures exact { GivesTree result (formula_at line.now at) }
     ensures again { IfOk result (λ f. reading_of (print (tree_of f)) ≡ Ok (tree_of f)) }
 {
-    match read_formula(alloc, behind(line, at)) {
+    match read_formula(alloc, after(line, at)) {
         Ok(formula) => Ok(formula),
         Err(fault) => Err(located(fault, at)),
     }
@@ -132,7 +132,7 @@ fn shared(alloc: Global, formula: Formula) -> Result<Rc<Formula>, OutOfMemory>
     Ok(Rc::new(alloc, formula)?)
 }
 
-/// The quantity that the text behind `let` is.
+/// The quantity that the text after `let` is.
 pub fn read_let(alloc: Global, line: &[u8], at: usize) -> Result<Row, RowFault>
     requires { at ≤ length line.now }
     ensures exact { GivesRow result (let_of line.now at) }

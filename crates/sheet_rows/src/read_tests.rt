@@ -118,7 +118,7 @@ fn lines_that_give_a_row(rt: HostRuntime) -> Result<(), Fail> {
 }
 
 #[test]
-fn rows_behind_other_words(rt: HostRuntime) {
+fn rows_after_other_words(rt: HostRuntime) {
     let line = "set given X 5 std 1";
     assert_eq!(rt; fault_of(rt.alloc(), line, 3), None);
     let line = "set given X 5 foo 1";

@@ -14,7 +14,7 @@ pub fn printed_rows_are_read_again()
     ensures read { (line : List ℕ) (from : ℕ) (row : Row) → row_read line from ≡ Ok row → IsRegular row }
 {}
 
-/// What a line gives is a row or a refusal of a word, and no want of memory.
-pub fn rows_are_never_a_want_of_memory()
+/// What a line gives is a row or a refusal of a word, and never out of memory.
+pub fn rows_are_never_out_of_memory()
     ensures { (line : List ℕ) (from : ℕ) → row_read line from ≢ Err OutOfMemory }
 {}

@@ -11,7 +11,7 @@ use Rattle.fixed_interval.specs.declared.faults.ArithFault.{ArithFault}
 use Rattle.formula_ast.specs.Trees.{Tree, Number, Variable, Opposite, Joined, Raised, uses, distinct, names_of}
 use Rattle.formula_ast.specs.declared.token.Sign.{Sign}
 use Rattle.formula_ast.specs.declared.token.Sign.TheVariants.{Plus, Minus, Times, Over}
-use Rattle.formula_box.specs.Values.{Answer, then_with, in_range, arithmetic, used, use_behind, joined_span, span_from, span_of}
+use Rattle.formula_box.specs.Values.{Answer, then_with, in_range, arithmetic, used, use_after, joined_span, span_from, span_of}
 use Rattle.formula_box.specs.declared.fault.EvalFault.TheVariants.{Arith, NoValue}
 use Rattle.value_cache.specs.Evaluations.{Named, span_in, is_fault, fault_at, first_fault, settled, evaluation_of_formula}
 use Rattle.value_cache.specs.declared.evaluation.Evaluation.{Evaluation}
@@ -25,7 +25,7 @@ span_same given others k (Number q) h = refl
 span_same given others k (Variable n) h = ap (used k) h
 span_same given others k (Opposite a) h = rw (span_same given others k a h) refl
 span_same given others k (Joined s a b) h =
-    rw (span_same given others k a h.0, span_same given others (use_behind k a) b h.1) refl
+    rw (span_same given others k a h.0, span_same given others (use_after k a) b h.1) refl
 span_same given others k (Raised a e) h = rw (span_same given others k a h) refl
 
 or_assoc : {K : Type 0} (a b c : Option (Evaluation K)) → option_or a (option_or b c) ≡ option_or (option_or a b) c
@@ -95,7 +95,7 @@ span_settled given k (Variable n) h = used_settled k (given n) h
 span_settled given k (Opposite a) h = then_settled _ _ (span_settled given k a h) (λ s. tt)
 span_settled given k (Joined s a b) h =
     then_settled _ _ (span_settled given k a h.0)
-    (λ x. then_settled _ _ (span_settled given (use_behind k a) b h.1) (λ y. joined_settled s x y))
+    (λ x. then_settled _ _ (span_settled given (use_after k a) b h.1) (λ y. joined_settled s x y))
 span_settled given k (Raised a e) h = then_settled _ _ (span_settled given k a h) (λ s. arithmetic_settled (power s e))
 
 -- without a fault among them all names have spans

@@ -1,13 +1,13 @@
 use Rattle.std.proofs.Common.{sym, ap, ◌∙◌}
-use Rattle.decimal18.specs.Literal.{front_sign, unsigned_literal, read, parsed}
+use Rattle.decimal18.specs.Literal.{leading_sign, unsigned_literal, read, parsed}
 use Rattle.decimal18.proofs.LiteralRead.{if_value, not_number, number_range}
 use Rattle.decimal18.proofs.literal.parse.Goals as goal
 
 pub returns-clause-exact : goal.returns-clause-exact
 unfolding parsed
 returns-clause-exact c =
-    c.parse_unsigned.ensures (front_sign c.args.text.now) (sym c.split_sign-negative.ensures.negative)
-    ∙ ap (λ t. read (unsigned_literal (front_sign c.args.text.now) t)) c.split_sign-negative.ensures.rest
+    c.parse_unsigned.ensures (leading_sign c.args.text.now) (sym c.split_sign-negative.ensures.negative)
+    ∙ ap (λ t. read (unsigned_literal (leading_sign c.args.text.now) t)) c.split_sign-negative.ensures.rest
 
 pub returns-clause-value : goal.returns-clause-value
 returns-clause-value c = if_value c.args.text.now _ (returns-clause-exact c)

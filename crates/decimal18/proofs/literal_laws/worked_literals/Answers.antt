@@ -50,13 +50,13 @@ pub returns-clause-four_digits : goal.returns-clause-four_digits
 unfolding parsed
 returns-clause-four_digits c = refl
 
-pub returns-clause-no_digit_behind : goal.returns-clause-no_digit_behind
+pub returns-clause-no_digit_after : goal.returns-clause-no_digit_after
 unfolding parsed
-returns-clause-no_digit_behind c = refl
+returns-clause-no_digit_after c = refl
 
-pub returns-clause-no_digit_in_front : goal.returns-clause-no_digit_in_front
+pub returns-clause-no_digit_before : goal.returns-clause-no_digit_before
 unfolding parsed
-returns-clause-no_digit_in_front c = refl
+returns-clause-no_digit_before c = refl
 
 pub returns-clause-two_signs : goal.returns-clause-two_signs
 unfolding parsed

@@ -12,23 +12,23 @@ loop-rest-init c =
 pub returns-in-Some : goal.returns-in-Some
 returns-in-Some c =
     fails_by c.in-Some.fault (reading_of c.args.text.now)
-    (read_ruled c.args.text.now c.loop-rest.rest.now c.front-token.result.1.now (stage_of c.loop-rest.state c.loop-rest.outer.items)
-    c.loop-rest.nodes c.loop-rest.end c.front-token.result.0.len c.front-token.result.0.kind c.opens.result c.in-Some.fault
+    (read_ruled c.args.text.now c.loop-rest.rest.now c.split_token-token.result.1.now (stage_of c.loop-rest.state c.loop-rest.outer.items)
+    c.loop-rest.nodes c.loop-rest.end c.split_token-token.result.0.len c.split_token-token.result.0.kind c.opens.result c.in-Some.fault
     c.loop-rest.invariant
     (not_empty (length c.loop-rest.rest.now) c.is_empty.result c.is_empty.ensures c.loop-rest-test.true)
-    c.front-token.ensures.front
-    (c.opens.ensures (length c.args.text.now - length c.front-token.result.1.now))
+    c.split_token-token.ensures.first
+    (c.opens.ensures (length c.args.text.now - length c.split_token-token.result.1.now))
     (sym c.in-Some.is ∙ c.refusal-refused.ensures (outside c.loop-rest.outer.items)))
 
 pub loop-rest-preserved : goal.loop-rest-preserved
 loop-rest-preserved c =
     let told = c.in_ok-next.ensures in
     rw (c.node_count-count.ensures.is (outside c.loop-rest.outer.items))
-    (read_more c.args.text.now c.loop-rest.rest.now c.front-token.result.1.now (stage_of c.loop-rest.state c.loop-rest.outer.items)
-    (stage_of c.in-Some-2.next c.step.new.outer.items) c.loop-rest.nodes c.loop-rest.end c.front-token.result.0.len
-    c.front-token.result.0.kind c.opens.result c.loop-rest.invariant
+    (read_more c.args.text.now c.loop-rest.rest.now c.split_token-token.result.1.now (stage_of c.loop-rest.state c.loop-rest.outer.items)
+    (stage_of c.in-Some-2.next c.step.new.outer.items) c.loop-rest.nodes c.loop-rest.end c.split_token-token.result.0.len
+    c.split_token-token.result.0.kind c.opens.result c.loop-rest.invariant
     (not_empty (length c.loop-rest.rest.now) c.is_empty.result c.is_empty.ensures c.loop-rest-test.true)
-    c.front-token.ensures.front c.front-token.ensures.tight
-    (c.opens.ensures (length c.args.text.now - length c.front-token.result.1.now))
+    c.split_token-token.ensures.first c.split_token-token.ensures.tight
+    (c.opens.ensures (length c.args.text.now - length c.split_token-token.result.1.now))
     (sym c.in_default.is ∙ c.refusal-refused.ensures (outside c.loop-rest.outer.items))
     (sym (rw c.in-Some-2.is at told)))

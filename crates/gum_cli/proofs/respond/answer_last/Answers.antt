@@ -9,7 +9,7 @@ on_ok : {A E : Type 0} {P Q : Type 0} (r : Result A E) → (P → Q) → OnOk r 
 on_ok (Ok x) f h = f h
 on_ok (Err e) f h = tt
 
--- nothing comes behind the last line
+-- nothing comes after the last line
 pub returns-in-Some : goal.returns-in-Some
 returns-in-Some g c =
     let last : items_of c.args.splitter ≡ c.in-Some.item ∷ [] =

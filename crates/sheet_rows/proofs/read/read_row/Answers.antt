@@ -1,11 +1,11 @@
 use Rattle.sheet_rows.specs.Reading.{row_read}
-use Rattle.sheet_rows.proofs.LineEnds.{behind_end}
+use Rattle.sheet_rows.proofs.LineEnds.{after_end}
 use Rattle.sheet_rows.proofs.read.read_row.Goals as goal
 
 pub returns-then-from-text-clause-exact : goal.returns-then-from-text-clause-exact
 unfolding row_read
 returns-then-from-text-clause-exact c =
-    λ memory. rw (← c.written_part-text.ensures) (behind_end c.written_part-text.result.now c.args.from c.if-from-text.true)
+    λ memory. rw (← c.written_part-text.ensures) (after_end c.written_part-text.result.now c.args.from c.if-from-text.true)
 
 pub returns-clause-exact : goal.returns-clause-exact
 unfolding row_read

@@ -6,7 +6,7 @@ use Rattle.sheet_rows.proofs.read_let.read_rest.Goals as goal
 
 pub located-requires : goal.located-requires
 located-requires c =
-    omega (arith, fault_within c.behind.result.now c.in-Err.fault c.in-Err.ensures.exact, c.behind.ensures.length, c.requires)
+    omega (arith, fault_within c.after.result.now c.in-Err.fault c.in-Err.ensures.exact, c.after.ensures.length, c.requires)
 
 pub returns-in-Ok-clause-again : goal.returns-in-Ok-clause-again
-returns-in-Ok-clause-again c = read_again c.behind.result.now (tree_of c.in-Ok.formula) c.in-Ok.ensures.exact
+returns-in-Ok-clause-again c = read_again c.after.result.now (tree_of c.in-Ok.formula) c.in-Ok.ensures.exact

@@ -3,7 +3,7 @@ use Rattle.decimal18.proofs.Zeros.{zeros_twice}
 use Rattle.decimal18.proofs.magnitude.Magnitude.without_zeros.Goals as goal
 
 pub returns-then-self-eq0-2-clause-same : goal.returns-then-self-eq0-2-clause-same
-returns-then-self-eq0-2-clause-same c = record { zeros = c.args.self.places; behind_point = omega arith; at_end = omega arith }
+returns-then-self-eq0-2-clause-same c = record { zeros = c.args.self.places; after_point = omega arith; at_end = omega arith }
 
 pub returns-clause-same : goal.returns-clause-same
 returns-clause-same c =

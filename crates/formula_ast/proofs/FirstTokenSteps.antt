@@ -1,4 +1,4 @@
--- The tokens of a text, read one by one from its front.
+-- The tokens of a text, read one by one from its start.
 use Rattle.std.proofs.Common.{◌≡◌, ℕ, zero, suc, ◌+◌, ◌-◌, ◌<◌, ◌≤◌, ◌==◌, nat_le, ◌&&◌, Bool, true, false, cond, List, [], ◌∷◌, length, take, drop, get_or, refl, sym, ◌∙◌, ap, arith, length-drop, Option, None, Some}
 use Rattle.std.specs.List.{prefix_len}
 use Rattle.std.specs.Char.{is_ascii_digit}
@@ -9,7 +9,7 @@ use Rattle.decimal18.specs.Literal.{parsed}
 use Rattle.decimal18.specs.Bound.{Bound}
 use Rattle.formula_ast.specs.Names.{begins_name, is_name}
 use Rattle.formula_ast.specs.Tokens.{is_blank, goes_on_run, literal_len, len_of, kind_of, is_glued, bound_in, number_kind, name_kind, mark_kind, power_of, tokens}
-use Rattle.formula_ast.specs.Fronts.{IsTight, IsSmall, IsPassed, IsFront}
+use Rattle.formula_ast.specs.FirstTokens.{IsTight, IsSmall, IsPassed, IsFirstToken}
 use Rattle.formula_ast.specs.Reading.{is_open, opens_next}
 use Rattle.formula_ast.specs.declared.token.Kind.{Kind}
 use Rattle.formula_ast.specs.declared.token.Kind.TheVariants.{Number, Name, Glued, Wrong}
@@ -61,24 +61,24 @@ passed text =
       same = λ at. rw back (blanks_passed text at);
     }
 
--- ---- the token at the front
+-- ---- the token at the start
 -- a name's first byte may stand in a run
 run_goes_on : (byte : ℕ) → begins_name byte ≡ true → goes_on_run byte ≡ true
 run_goes_on byte h = grind (arith, nat_tests)
 
-front_positive : (byte : ℕ) (bytes : List ℕ) (d b : Bool) → is_ascii_digit byte ≡ d → begins_name byte ≡ b →
+first_positive : (byte : ℕ) (bytes : List ℕ) (d b : Bool) → is_ascii_digit byte ≡ d → begins_name byte ≡ b →
     0 < cond d (literal_len (byte ∷ bytes)) (cond b (prefix_len goes_on_run (byte ∷ bytes)) 1)
-front_positive byte bytes true b e f = rw e (omega arith)
-front_positive byte bytes false true e f = rw (run_goes_on byte f) (omega arith)
-front_positive byte bytes false false e f = omega arith
+first_positive byte bytes true b e f = rw e (omega arith)
+first_positive byte bytes false true e f = rw (run_goes_on byte f) (omega arith)
+first_positive byte bytes false false e f = omega arith
 
 pub some_len : (text : List ℕ) → 0 < length text → 0 < len_of text
 some_len [] h = absurd (omega arith)
-some_len (byte ∷ bytes) h = front_positive byte bytes (is_ascii_digit byte) (begins_name byte) refl refl
+some_len (byte ∷ bytes) h = first_positive byte bytes (is_ascii_digit byte) (begins_name byte) refl refl
 
-pub front_of : (text behind : List ℕ) (len : ℕ) (kind : Kind) → 0 < length text → len ≡ len_of text → kind ≡ kind_of text →
-    len ≤ length text → IsPassed (drop len text) behind → IsFront text len kind behind
-front_of text behind len kind some long is within p =
+pub first_token_of : (text after : List ℕ) (len : ℕ) (kind : Kind) → 0 < length text → len ≡ len_of text → kind ≡ kind_of text →
+    len ≤ length text → IsPassed (drop len text) after → IsFirstToken text len kind after
+first_token_of text after len kind some long is within p =
     let rest : length (drop len text) ≡ length text - len = length-drop len text in
     record {
       positive = rw long (some_len text some);
@@ -108,11 +108,11 @@ small_mark byte =
     small_cond (byte == 43) _ _ tt (small_cond (byte == 45) _ _ tt (small_cond (byte == 42) _ _ tt (small_cond (byte == 47) _ _ tt
     (small_cond (byte == 94) _ _ tt (small_cond (byte == 40) _ _ tt (small_cond (byte == 41) _ _ tt tt))))))
 
-small_text : (byte : ℕ) (literal behind run : List ℕ) →
-    IsSmall (cond (is_ascii_digit byte) (number_kind literal behind) (cond (begins_name byte) (name_kind run) (mark_kind byte)))
-small_text byte literal behind run =
+small_text : (byte : ℕ) (literal after run : List ℕ) →
+    IsSmall (cond (is_ascii_digit byte) (number_kind literal after) (cond (begins_name byte) (name_kind run) (mark_kind byte)))
+small_text byte literal after run =
     small_cond (is_ascii_digit byte) _ _
-    (small_cond (is_glued behind) Glued _ tt (small_number (bound_in (parsed literal)) literal))
+    (small_cond (is_glued after) Glued _ tt (small_number (bound_in (parsed literal)) literal))
     (small_cond (begins_name byte) _ _ (small_cond (is_name run) (Name run) Wrong tt tt) (small_mark byte))
 
 pub small_kind : (text : List ℕ) → IsSmall (kind_of text)
@@ -138,13 +138,13 @@ no_open_digit byte h = grind (arith, nat_tests)
 no_open_name : (byte : ℕ) → begins_name byte ≡ true → (byte == 40) ≡ false
 no_open_name byte h = grind (arith, nat_tests)
 
-open_text : (byte : ℕ) (literal behind run : List ℕ) (d b : Bool) → is_ascii_digit byte ≡ d → begins_name byte ≡ b →
-    (byte == 40) ≡ is_open (cond d (number_kind literal behind) (cond b (name_kind run) (mark_kind byte)))
-open_text byte literal behind run true b e f =
-    no_open_digit byte e ∙ sym (open_cond (is_glued behind) Glued _ refl refl)
-open_text byte literal behind run false true e f =
+open_text : (byte : ℕ) (literal after run : List ℕ) (d b : Bool) → is_ascii_digit byte ≡ d → begins_name byte ≡ b →
+    (byte == 40) ≡ is_open (cond d (number_kind literal after) (cond b (name_kind run) (mark_kind byte)))
+open_text byte literal after run true b e f =
+    no_open_digit byte e ∙ sym (open_cond (is_glued after) Glued _ refl refl)
+open_text byte literal after run false true e f =
     no_open_name byte f ∙ sym (open_cond (is_name run) (Name run) Wrong refl refl)
-open_text byte literal behind run false false e f = open_mark byte (byte == 40) refl
+open_text byte literal after run false false e f = open_mark byte (byte == 40) refl
 
 opens_next_kind : (text : List ℕ) (at : ℕ) → IsTight text → 0 < length text → opens_next (tokens text 0 at) ≡ is_open (kind_of text)
 opens_next_kind [] at h some = absurd (omega arith)
@@ -157,5 +157,5 @@ open_kind (byte ∷ bytes) some =
     open_text byte (take (len_of text) text) (drop (len_of text) text) (take (len_of text) text)
     (is_ascii_digit byte) (begins_name byte) refl refl
 
-pub open_front : (text : List ℕ) (at : ℕ) → IsTight text → 0 < length text → (get_or text 0 0 == 40) ≡ opens_next (tokens text 0 at)
-open_front text at h some = open_kind text some ∙ sym (opens_next_kind text at h some)
+pub open_first : (text : List ℕ) (at : ℕ) → IsTight text → 0 < length text → (get_or text 0 0 == 40) ≡ opens_next (tokens text 0 at)
+open_first text at h some = open_kind text some ∙ sym (opens_next_kind text at h some)

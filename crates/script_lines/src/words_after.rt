@@ -1,5 +1,5 @@
-//! The words behind the first of a line, which has no comment and no last blanks. Each part is read from a
-//! place of the line on, and nothing may stand behind it.
+//! The words after the first of a line, which has no comment and no last blanks. Each part is read from a
+//! place of the line on, and nothing may stand after it.
 
 ghost use Rattle.std.specs.Prelude.{◌≡◌, ◌+◌, ◌≤◌, length};
 ghost use Rattle.line_words.specs.Words.{words_from};
@@ -10,7 +10,7 @@ use answers::{LineFault, Query};
 use formula_ast::Name;
 use line_words::next_word;
 
-/// The item, where no word stands behind it.
+/// The item, where no word stands after it.
 pub(crate) fn alone<T: Copy>(item: T, line: &[u8], at: usize) -> Result<T, LineFault>
     requires { at ≤ length line.now }
     ensures { result ≡ alone item (words_from line.now at) }
@@ -54,12 +54,12 @@ pub(crate) fn read_query_with(line: &[u8], place: usize, word: &[u8]) -> Result<
     requires { place + length word.now ≤ length line.now }
     ensures { result ≡ query_with (length line.now) (record { place = place; text = word.now }) (words_from line.now (place + length word.now)) }
 {
-    let behind = place + word.len();
+    let after = place + word.len();
     if word == VALUE {
-        return read_value(line, behind);
+        return read_value(line, after);
     }
     if word == DUMP {
-        return alone(Query::Dump, line, behind);
+        return alone(Query::Dump, line, after);
     }
     if is_other_query(word) {
         return Err(LineFault::NotBuilt);
