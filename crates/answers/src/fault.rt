@@ -1,4 +1,4 @@
-use decimal18::OutOfMemory;
+use line_text::OutOfMemory;
 use formula_ast::Name;
 use sheet_rows::RowFault;
 

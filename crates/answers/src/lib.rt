@@ -6,6 +6,5 @@ mod fault;
 mod reply;
 
 pub use command::{Command, Edit, Query};
-pub use decimal18::OutOfMemory;
 pub use fault::{AskFault, HistoryFault, LineFault, MarkFault};
 pub use reply::{Answer, Reply};

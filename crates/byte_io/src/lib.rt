@@ -1,7 +1,8 @@
 //! The traits by which a program meets the outside, and their implementations.
 //!
 //! A [`Source`] gives bytes and a [`Sink`] takes them, piece by piece. Each accounts for its failures
-//! by a count of faults: a call answers [`Failed`] only where the count rose.
+//! by a count of faults: a call answers [`Failed`] only where the count rose. [`write_all`] writes until a sink
+//! took all bytes.
 //!
 //! - [`MemorySource`] and [`MemorySink`]: bytes in memory, with calls that are to fail.
 //! - [`SureSource`] and [`SureSink`]: bytes in memory, with calls that never fail.
@@ -20,6 +21,7 @@ mod std_sink;
 mod std_source;
 mod sure_sink;
 mod sure_source;
+mod writes;
 
 pub use failed::Failed;
 pub use memory_sink::MemorySink;
@@ -31,6 +33,7 @@ pub use std_sink::StdSink;
 pub use std_source::StdSource;
 pub use sure_sink::SureSink;
 pub use sure_source::SureSource;
+pub use writes::write_all;
 
 #[cfg(test)]
 mod tests;

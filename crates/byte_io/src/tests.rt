@@ -10,23 +10,6 @@ use std::io;
 use std::io::{ErrorKind, Read, Write};
 use std::test::Fail;
 
-// Writes all of `bytes`, in as many writes as the sink takes.
-fn write_all<K: Sink>(sink: &mut K, bytes: &[u8]) -> Result<(), Failed>
-    requires { HasRoom (K.room sink.old) (length bytes.now) }
-    ensures whole { OnOk result (Wrote (K.written sink.old) (K.written sink.new)
-        (K.room sink.old) (K.room sink.new) bytes.now) }
-    ensures part { OnErr result (WrotePart (K.written sink.old) (K.written sink.new)
-        (K.room sink.old) (K.room sink.new) bytes.now) }
-    ensures cause { HasCause (K.faults sink.old) (K.faults sink.new) result }
-    ensures never_falls { K.faults sink.old ≤ K.faults sink.new }
-{
-    let mut at = 0;
-    'writes: while at < bytes.len() {
-        at += sink.write(&bytes[at..])?;
-    }
-    Ok(())
-}
-
 // Copies a source to a sink, in at most `turns` pieces. Answers whether the end was met.
 fn copy<S: Source, K: Sink>(source: &mut S, sink: &mut K, turns: u32) -> Result<bool, Failed>
     requires count { S.count source.old ≤ 2 ^ 62 }

@@ -59,7 +59,7 @@ IsReduced-canonical c (suc p) = step c p (unsigned_abs c % 10 == 0) refl (IsRedu
 
 -- ---- one value, one canonical form
 -- the cross products of two decimal numbers of one value
-crossed : (a b : Bound) → value_of a ≡ value_of b → (a.coefficient *ℤ pos (10 ^ b.places)) ≡ (b.coefficient *ℤ pos (10 ^ a.places))
+pub crossed : (a b : Bound) → value_of a ≡ value_of b → (a.coefficient *ℤ pos (10 ^ b.places)) ≡ (b.coefficient *ℤ pos (10 ^ a.places))
 unfolding value_of
 crossed a b e = (≈-of_≡ (fraction_of a) (fraction_of b) e).same
 
@@ -69,7 +69,7 @@ sizes a b e =
     sym (unsigned_abs-mul a.coefficient (pos (10 ^ b.places))) ∙ ap unsigned_abs (crossed a b e)
     ∙ unsigned_abs-mul b.coefficient (pos (10 ^ a.places))
 
-power_positive : (p : ℕ) → 0 < 10 ^ p
+pub power_positive : (p : ℕ) → 0 < 10 ^ p
 power_positive p = one-le-pow p 10 (lit≤ tt)
 
 -- with more places than a number of the same value the last digit is 0

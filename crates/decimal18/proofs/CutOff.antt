@@ -19,7 +19,7 @@ use Rattle.decimal18.specs.Down.{IsDown, IsInRange, top, down, up, floor_at, fit
 use Rattle.decimal18.specs.Digits.{signed, signed_ℚ, rounded, growth, IsCutOff, IsEnough, IsFirst, IsPast}
 use Rattle.decimal18.proofs.Values.{value-shifted, value-rises, value-whole, under_floor, under_value}
 use Rattle.decimal18.proofs.Canonical.{IsReduced-canonical, one_canonical}
-use Rattle.decimal18.proofs.Rounding.{IsLong, long-of_36, long-of_unfit, greatest_at, down_some, some_down, none_down}
+use Rattle.decimal18.proofs.Rounding.{times_bottom, IsLong, long-of_36, long-of_unfit, greatest_at, down_some, some_down, none_down}
 use Rattle.decimal18.proofs.Zeros.{size_of_signed}
 use Rattle.decimal18.proofs.Upward.{neg-neg, neg_ℚ-neg_ℚ, value-negated, IsCanonical-negated, IsInRange-neg_ℚ, none_up, up_some}
 
@@ -42,10 +42,6 @@ pub below_top : (b : Bound) → IsBound b → value_of b ≤ℚ of_ℤ top
 below_top b h =
     ≤ℚ_trans _ _ _ (value-rises b.coefficient (top *ℤ pos (10 ^ b.places)) b.places (times_top b.coefficient _ (one-le-pow b.places 10 (lit≤ tt)) h.digits))
     (≤ℚ_same _ _ (ap (λ n. value_of (scaled (top *ℤ pos (10 ^ b.places)) n)) (omega arith) ∙ value-shifted top 0 b.places ∙ value-whole top))
-
-times_bottom : (c : ℤ) (t : ℕ) → 0 < t → unsigned_abs c < 10 ^ 18 → (neg_ℤ top *ℤ pos t) ≤ℤ c
-times_bottom (pos a) t t0 h = omega (arith, ints)
-times_bottom (negsuc a) t t0 h = let g = mul-le-mul_right {m = 1} {n = t} (10 ^ 18 - 1) t0 in omega (arith, ints)
 
 pub above_bottom : (b : Bound) → IsBound b → of_ℤ (neg_ℤ top) ≤ℚ value_of b
 above_bottom b h =

@@ -14,7 +14,8 @@ use Rattle.decimal18.specs.Bound.{Bound, scaled, fraction_of, value_of, canonica
 use Rattle.decimal18.specs.Digits.{signed}
 use Rattle.decimal18.specs.Literal.{is_bound, as_bound}
 use Rattle.decimal18.specs.Significand.{IsLong}
-use Rattle.decimal18.proofs.Canonical.{IsReduced-canonical, one_canonical}
+use Rattle.decimal18.proofs.Canonical.{IsReduced-canonical, one_canonical, crossed, power_positive}
+use Rattle.decimal18.proofs.Zeros.{size_of_signed}
 use Rattle.decimal18.proofs.LiteralDigits.{no_zero_last}
 
 -- ---- values
@@ -28,15 +29,6 @@ same_value negative m n p q h =
     eq/ (fraction_of (scaled (signed negative m) p)) (fraction_of (scaled (signed negative n) q))
     (record { same = signed_times negative m n (10 ^ p) (10 ^ q) h })
 
-size_signed : (negative : Bool) (n : ℕ) → unsigned_abs (signed negative n) ≡ n
-size_signed false n = refl
-size_signed true zero = refl
-size_signed true (suc n) = refl
-
-crossed : (a b : Bound) → value_of a ≡ value_of b → (a.coefficient *ℤ pos (10 ^ b.places)) ≡ (b.coefficient *ℤ pos (10 ^ a.places))
-unfolding value_of
-crossed a b e = (≈-of_≡ (fraction_of a) (fraction_of b) e).same
-
 -- equal values by the sizes of their digits
 pub sizes : (b : Bound) (negative : Bool) (n p : ℕ) → value_of b ≡ value_of (scaled (signed negative n) p)
     → unsigned_abs b.coefficient * 10 ^ p ≡ n * 10 ^ b.places
@@ -44,7 +36,7 @@ sizes b negative n p e =
     sym (unsigned_abs-mul b.coefficient (pos (10 ^ p)))
     ∙ ap unsigned_abs (crossed b (scaled (signed negative n) p) e)
     ∙ unsigned_abs-mul (signed negative n) (pos (10 ^ b.places))
-    ∙ ap (λ k. k * 10 ^ b.places) (size_signed negative n)
+    ∙ ap (λ k. k * 10 ^ b.places) (size_of_signed negative n)
 
 -- ---- the bound of a number, if any
 pub same_canonical : (c d : ℤ) (p q : ℕ) → value_of (scaled c p) ≡ value_of (scaled d q) → canonical c p ≡ canonical d q
@@ -74,9 +66,6 @@ no_bound c p none = by (is_bound (canonical c p)) refl where
   by true e = absurd (none (canonical c p) (record { digits = grind (arith, nat_tests); most = grind (arith, nat_tests) }) (IsReduced-canonical c p).same)
 
 -- ---- digits times a power of ten
-power_positive : (p : ℕ) → 0 < 10 ^ p
-power_positive p = one-le-pow p 10 (lit≤ tt)
-
 -- more powers on the right: x * 10 ^ p ≡ n * 10 ^ r * 10 ^ q with p ≤ r + q
 cancel_left : (x n p r q : ℕ) → p ≤ r + q → x * 10 ^ p ≡ n * 10 ^ r * 10 ^ q → x ≡ n * 10 ^ (r + q - p)
 cancel_left x n p r q h e =

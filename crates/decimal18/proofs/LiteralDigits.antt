@@ -1,4 +1,5 @@
 -- Whole numbers read digit by digit: their digits before the zeros at their end.
+use Rattle.std.proofs.lemmas.Bool.{and_parts, and_from}
 use Rattle.std.specs.Prelude.{◌≡◌, ◌≢◌, ℕ, zero, suc, ◌+◌, ◌-◌, ◌*◌, ◌%◌, ◌^◌, ◌<◌, ◌≤◌, ◌&&◌, Bool, true, false, cond, List, [], ◌∷◌, ◌++◌, length, take, drop, get_or, refl}
 use Rattle.std.proofs.lemmas.List.Folds.{list_all-append}
 use Rattle.std.proofs.Common.{take-append-drop, subst, sym, ap, ◌∙◌, arith, rules, drop-cons, add-one}
@@ -65,19 +66,11 @@ digit_below c h =
     let range : IsInRange 48 57 c = digit_in (c ∷ []) 0 (rw h refl) (omega arith) in
     omega (arith, digit_value_digit c range)
 
-pub cut_true : (s t : Bool) → (s && t) ≡ true → (s ≡ true) × (t ≡ true)
-cut_true true t h = (refl, h)
-cut_true false t h = absurd (cc)
-
-pub both_true : (s t : Bool) → s ≡ true → t ≡ true → (s && t) ≡ true
-both_true true t h k = k
-both_true false t h k = h
-
 -- more digits leave a long number long
 pub long_after : (text : List ℕ) (n : ℕ) → are_digits text ≡ true → IsLong n → IsLong (digits_value_after 10 n text)
 long_after [] n all long = long
 long_after (c ∷ cs) n all long =
-    let parts = cut_true (is_ascii_digit c) (are_digits cs) all in
+    let parts = and_parts (is_ascii_digit c) (are_digits cs) all in
     long_after cs (n * 10 + digit_value c) parts.1 (long_digit n (digit_value c) (digit_below c parts.0) long)
 
 -- the leading digits are digits
@@ -89,11 +82,11 @@ leading_is_digits (c ∷ cs) = by (is_ascii_digit c) refl (leading_is_digits cs)
   by false e h = refl
   by true e h =
       let one : 1 + prefix_len is_ascii_digit cs ≡ suc (prefix_len is_ascii_digit cs) = omega arith in
-      ap (λ k. are_digits (take k (c ∷ cs))) one ∙ both_true (is_ascii_digit c) (are_digits (take (prefix_len is_ascii_digit cs) cs)) e h
+      ap (λ k. are_digits (take k (c ∷ cs))) one ∙ and_from (is_ascii_digit c) (are_digits (take (prefix_len is_ascii_digit cs) cs)) e h
 
 digits_after : (text : List ℕ) (i : ℕ) → are_digits text ≡ true → are_digits (drop i text) ≡ true
 digits_after text i all =
-    (cut_true (are_digits (take i text)) (are_digits (drop i text))
+    (and_parts (are_digits (take i text)) (are_digits (drop i text))
     (sym (list_all-append is_ascii_digit (take i text) (drop i text)) ∙ ap are_digits (take-append-drop i text) ∙ all)).1
 
 -- a number that is long at one digit of the text is long at its end

@@ -30,7 +30,7 @@ no_bound_value b c none h e =
     absurd (cc)
 
 -- ---- the three answers
-ok_of : (o : Option Bound) (b : Bound) → in_range o ≡ Ok b → o ≡ Some b
+pub ok_of : (o : Option Bound) (b : Bound) → in_range o ≡ Ok b → o ≡ Some b
 ok_of (Some c) b h = cc
 ok_of None b h = absurd (cc)
 

@@ -1,4 +1,5 @@
 -- A text is read as a literal exactly where it is that literal's text.
+use Rattle.std.proofs.lemmas.Bool.{and_parts}
 use Rattle.std.specs.Prelude.{◌≡◌, ℕ, zero, suc, ◌+◌, ◌<◌, ◌≤◌, ◌==◌, ◌&&◌, Bool, true, false, cond, nat_lt, nat_le, List, [], ◌∷◌, ◌++◌, length, take, drop, Option, None, Some, option_map, refl}
 use Rattle.std.proofs.Common.{sym, ap, subst, ◌∙◌, arith, append_assoc, take-append-drop}
 use Rattle.std.proofs.Math.Seq.{take-append_seam, drop-append_seam}
@@ -9,7 +10,7 @@ use Rattle.std.proofs.lemmas.List.Folds.{length-prefix_len}
 use Rattle.std.specs.List.{prefix_len}
 use Rattle.std.specs.Char.{is_ascii_digit}
 use Rattle.decimal18.specs.Literal.{Sign, Unsigned, Plus, Minus, Exponent, Literal, sign_text, point_text, exponent_text, text_of_literal, are_digits, is_exponent_letter, are_exponent_digits, is_exponent, Spells, leading_digits, after_digits, leading_sign, after_sign, leading_point, after_leading_point, exponent_of, unsigned_literal, literal_of}
-use Rattle.decimal18.proofs.LiteralDigits.{cut_true, leading_is_digits}
+use Rattle.decimal18.proofs.LiteralDigits.{leading_is_digits}
 
 -- ---- what is read is the text
 sign_parts : (text : List ℕ) → sign_text (leading_sign text) ++ after_sign text ≡ text
@@ -133,7 +134,7 @@ pub record BeginsWithDigit (text : List ℕ) : Type 0 where
 
 begins : (digits rest : List ℕ) → are_digits digits ≡ true → 0 < length digits → BeginsWithDigit (digits ++ rest)
 begins [] rest all some = absurd (omega arith)
-begins (c ∷ cs) rest all some = record { first = c; others = cs ++ rest; parts = refl; digit = (cut_true (is_ascii_digit c) (are_digits cs) all).0 }
+begins (c ∷ cs) rest all some = record { first = c; others = cs ++ rest; parts = refl; digit = (and_parts (is_ascii_digit c) (are_digits cs) all).0 }
 
 sign_again : (s : Sign) (text : List ℕ) → BeginsWithDigit text
     → (leading_sign (sign_text s ++ text) ≡ s) × (after_sign (sign_text s ++ text) ≡ text)
@@ -146,7 +147,7 @@ run_again : (digits rest : List ℕ) → are_digits digits ≡ true → prefix_l
     → prefix_len is_ascii_digit (digits ++ rest) ≡ length digits
 run_again [] rest all none = none
 run_again (c ∷ cs) rest all none =
-    let parts = cut_true (is_ascii_digit c) (are_digits cs) all in
+    let parts = and_parts (is_ascii_digit c) (are_digits cs) all in
     ap (λ t. cond t (1 + prefix_len is_ascii_digit (cs ++ rest)) 0) parts.0 ∙ ap (λ n. 1 + n) (run_again cs rest parts.1 none) ∙ omega arith
 
 digits_again : (digits rest : List ℕ) → are_digits digits ≡ true → prefix_len is_ascii_digit rest ≡ 0
@@ -167,7 +168,7 @@ letter_begins c cs h =
 
 exponent_begins : (e : Option Exponent) → is_exponent e ≡ true → BeginsExponent (exponent_text e)
 exponent_begins None h = record { no_digit = refl; no_point = (refl, refl) }
-exponent_begins (Some e) h = letter_begins e.letter (sign_text e.sign ++ e.digits) (cut_true (is_exponent_letter e.letter) (are_exponent_digits e.digits) h).0
+exponent_begins (Some e) h = letter_begins e.letter (sign_text e.sign ++ e.digits) (and_parts (is_exponent_letter e.letter) (are_exponent_digits e.digits) h).0
 
 point_begins : (digits rest : List ℕ) → BeginsExponent rest → prefix_len is_ascii_digit (point_text digits ++ rest) ≡ 0
 point_begins [] rest b = b.no_digit
@@ -185,9 +186,9 @@ point_again (d ∷ ds) rest all b =
 exponent_again : (e : Option Exponent) → is_exponent e ≡ true → exponent_of (exponent_text e) ≡ Some e
 exponent_again None h = refl
 exponent_again (Some e) h =
-    let tests = cut_true (is_exponent_letter e.letter) (are_exponent_digits e.digits) h in
-    let digits = cut_true (are_digits e.digits) (nat_lt 0 (length e.digits) && nat_le (length e.digits) 3) tests.1 in
-    let some = cut_true (nat_lt 0 (length e.digits)) (nat_le (length e.digits) 3) digits.1 in
+    let tests = and_parts (is_exponent_letter e.letter) (are_exponent_digits e.digits) h in
+    let digits = and_parts (are_digits e.digits) (nat_lt 0 (length e.digits) && nat_le (length e.digits) 3) tests.1 in
+    let some = and_parts (nat_lt 0 (length e.digits)) (nat_le (length e.digits) 3) digits.1 in
     let first = subst BeginsWithDigit (append-nil e.digits) (begins e.digits [] digits.0 (positive_is (length e.digits) some.0)) in
     let again = sign_again e.sign e.digits first in
     rw (again.0, again.1) (ap (λ t. cond t (Some (Some e)) None) h)

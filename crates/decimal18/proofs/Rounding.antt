@@ -1,6 +1,7 @@
 -- `down` and `up` answer the greatest bound not above and the least bound not below, and each number
 -- has one such bound.
 use Rattle.std.specs.Prelude.{◌≡◌, ℕ, zero, suc, ◌+◌, ◌-◌, ◌^◌, ◌<◌, ◌≤◌, Bool, true, false, cond, ℤ, pos, negsuc, ◌*ℤ◌, ◌≤ℤ◌, neg_ℤ, unsigned_abs, None, Some, refl, ◌⊎◌}
+use Rattle.std.proofs.Math.Nat.{mul-le-mul_right}
 use Rattle.std.proofs.Common.{sym, ap, subst, ◌∙◌, arith, inl, inr}
 use Rattle.std.proofs.Math.Nat.{one-le-pow}
 use Rattle.std.proofs.Math.Dec.{lit≤}
@@ -28,9 +29,9 @@ small_times : (m : ℤ) (t : ℕ) → 0 < t → unsigned_abs m < 10 ^ 18 → m �
 small_times (pos a) t t0 h = omega (arith, ints)
 small_times (negsuc a) t t0 h = omega (arith, ints)
 
-large_times : (m : ℤ) (t : ℕ) → 0 < t → unsigned_abs m < 10 ^ 18 → (neg_ℤ top *ℤ pos t) ≤ℤ m
-large_times (pos a) t t0 h = omega (arith, ints)
-large_times (negsuc a) t t0 h = omega (arith, ints)
+pub times_bottom : (c : ℤ) (t : ℕ) → 0 < t → unsigned_abs c < 10 ^ 18 → (neg_ℤ top *ℤ pos t) ≤ℤ c
+times_bottom (pos a) t t0 h = omega (arith, ints)
+times_bottom (negsuc a) t t0 h = let g = mul-le-mul_right {m = 1} {n = t} (10 ^ 18 - 1) t0 in omega (arith, ints)
 
 -- where one place more would make the floor too large, the floor has 18 digits
 finer_high : (x : ℚ) (m : ℤ) (p k : ℕ) → unsigned_abs m < 10 ^ 18 → pos (10 ^ 18) ≤ℤ floor_at x (p + 1)
@@ -49,7 +50,7 @@ pub finer_low : (x : ℚ) (m : ℤ) (p k : ℕ) → unsigned_abs m < 10 ^ 18 →
 finer_low x m p k small low h =
     let g : value_of (scaled (neg_ℤ top) (p + 1)) ≤ℚ x =
     ≤ℚ_trans _ _ _ (≤ℚ_same _ _ (sym (value-shifted (neg_ℤ top) (p + 1) k)))
-    (≤ℚ_trans _ _ _ (value-rises (neg_ℤ top *ℤ pos (10 ^ k)) m ((p + 1) + k) (large_times m (10 ^ k) (one-le-pow k 10 (lit≤ tt)) small)) h) in
+    (≤ℚ_trans _ _ _ (value-rises (neg_ℤ top *ℤ pos (10 ^ k)) m ((p + 1) + k) (times_bottom m (10 ^ k) (one-le-pow k 10 (lit≤ tt)) small)) h) in
     let f : neg_ℤ top ≤ℤ floor_at x (p + 1) = under_floor (neg_ℤ top) (p + 1) x g in
     omega (arith, ints)
 

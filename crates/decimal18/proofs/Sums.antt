@@ -30,12 +30,6 @@ near_value c d p q k e =
     ap (λ x. x +ℚ value_of (scaled d q)) (sym (value-shifted c p k) ∙ ap (λ n. value_of (scaled (c *ℤ pos (10 ^ k)) n)) e)
     ∙ value-sum (c *ℤ pos (10 ^ k)) d q
 
-signed_zero : (n : Bool) (m : ℕ) → m ≡ 0 → signed n m ≡ pos 0
-signed_zero n m e = ap (signed n) e ∙ zero_of n where
-  zero_of : (n : Bool) → signed n 0 ≡ pos 0
-  zero_of true = refl
-  zero_of false = refl
-
 -- the signed sum of sizes at the places of the second
 pub near_sum : (c d : ℤ) (na nb nr : Bool) (m n r t : ℕ) (p q k : ℕ) → c ≡ signed na m → d ≡ signed nb n → t ≡ 10 ^ k → p + k ≡ q
     → signed nr r ≡ (signed na (m * t) +ℤ signed nb n)

@@ -3,7 +3,7 @@ use Rattle.std.specs.Prelude.{◌≡◌, ℕ, zero, suc, ◌+◌, ◌*◌, ◌/�
 use Rattle.std.proofs.Common.{sym, ap, ◌∙◌, arith, inl, inr, length-append}
 use mathlib.Core.List.{append-nil}
 use Rattle.std.proofs.Math.Dec.{lit≤}
-use Rattle.std.proofs.lemmas.Bool.{cases_lt}
+use Rattle.std.proofs.lemmas.Bool.{cases_lt, and_from}
 use Rattle.std.proofs.Math.Nat.{pow-le-pow_right, div-div-eq-div-mul, div-le_self, div-mul-le_self, mul-le-mul_right, pow-suc}
 use Rattle.std.proofs.lemmas.Bool.Decides.{nat_tests}
 use Rattle.std.proofs.lemmas.Fmt.{digits_decimal, digits_value-decimal, decimal_nonempty, length-decimal-le}
@@ -18,7 +18,7 @@ use Rattle.decimal18.specs.Digits.{signed}
 use Rattle.decimal18.specs.Literal.{Sign, Unsigned, Minus, Literal, sign_text, point_text, text_of_literal, are_digits, is_minus, Spells, exact_of, as_bound, in_range, read, parsed}
 use Rattle.decimal18.proofs.Canonical.{IsReduced-canonical, one_canonical}
 use Rattle.decimal18.proofs.LiteralBound.{in_form}
-use Rattle.decimal18.proofs.LiteralDigits.{numerals, both_true, digit_in, after-append}
+use Rattle.decimal18.proofs.LiteralDigits.{numerals, digit_in, after-append}
 use Rattle.decimal18.proofs.LiteralText.{spelt_read}
 
 -- ---- the last digits
@@ -28,13 +28,13 @@ digit_byte d below =
     let range : IsInRange 48 57 (48 + d) = digit_in ((48 + d) ∷ []) 0 (rw test refl) (omega arith) in
     (test, omega (arith, digit_value_digit (48 + d) range))
 
-last_are_digits : (p n : ℕ) → are_digits (last_digits p n) ≡ true
+pub last_are_digits : (p n : ℕ) → are_digits (last_digits p n) ≡ true
 last_are_digits zero n = refl
 last_are_digits (suc p) n =
     list_all-append is_ascii_digit (last_digits p (n / 10)) ((48 + n % 10) ∷ [])
-    ∙ both_true _ _ (last_are_digits p (n / 10)) (both_true _ _ (digit_byte (n % 10) (omega arith)).0 refl)
+    ∙ and_from _ _ (last_are_digits p (n / 10)) (and_from _ _ (digit_byte (n % 10) (omega arith)).0 refl)
 
-length_last : (p n : ℕ) → length (last_digits p n) ≡ p
+pub length_last : (p n : ℕ) → length (last_digits p n) ≡ p
 length_last zero n = refl
 length_last (suc p) n =
     length-append (last_digits p (n / 10)) ((48 + n % 10) ∷ []) ∙ ap (λ k. k + 1) (length_last p (n / 10)) ∙ omega arith

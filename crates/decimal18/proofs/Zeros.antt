@@ -14,14 +14,6 @@ use Rattle.decimal18.proofs.Values.{value-shifted}
 use Rattle.decimal18.proofs.Canonical.{IsReduced-canonical, one_canonical}
 
 -- ---- steps
-pub no_zeros_taken : (d p : ℕ) → IsWithoutZeros d p d p
-no_zeros_taken d p = record { zeros = 0; after_point = omega arith; at_end = omega arith }
-
-pub zeros_taken : (d p k t : ℕ) → t ≡ 10 ^ k → k ≤ p → d % t ≡ 0 → IsWithoutZeros d p (d / t) (p - k)
-zeros_taken d p k t e h z = record { zeros = k; after_point = omega arith; at_end = rw (← e) (whole d t z) } where
-  whole : (d t : ℕ) → d % t ≡ 0 → d ≡ d / t * t
-  whole d t z = omega arith
-
 pub zeros_twice : (d p e q f r : ℕ) → IsWithoutZeros d p e q → IsWithoutZeros e q f r → IsWithoutZeros d p f r
 zeros_twice d p e q f r h k = record {
   zeros = k.zeros + h.zeros;
@@ -56,9 +48,6 @@ few_after d p k t e h z few = record {
 } where
   square : (k t : ℕ) → t ≡ 10 ^ k → t * t ≡ 10 ^ (2 * k)
   square k t e = ap (λ n. n * t) e ∙ ap (λ n. 10 ^ k * n) e ∙ sym (pow-add 10 k k) ∙ ap (λ n. 10 ^ n) (omega arith)
-
-pub few_before : (d p k t : ℕ) → t ≡ 10 ^ k → (k ≤ p → d % t ≡ 0 → ⊥) → HasFewZeros d p k
-few_before d p k t e h = record { few = λ more last. h more (subst (λ n. d % n ≡ 0) (sym e) last) }
 
 -- ---- the canonical form
 pub size_of_signed : (negative : Bool) (n : ℕ) → unsigned_abs (signed negative n) ≡ n

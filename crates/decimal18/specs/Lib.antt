@@ -7,4 +7,3 @@ pub mod Literal
 pub mod Significand
 pub mod Order
 pub mod OrderLaws
-pub mod Memory

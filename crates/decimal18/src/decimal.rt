@@ -1,5 +1,5 @@
 ghost use Rattle.std.specs.Prelude.{◌≡◌, ◌<◌, ◌≤◌, ◌^◌, ◌↔◌, IsSome, IfSome, IfOk, unsigned_abs};
-ghost use Rattle.decimal18.specs.Bound.{canonical, IsBound, IsCanonical};
+ghost use Rattle.decimal18.specs.Bound.{canonical, scaled, IsBound, IsCanonical};
 ghost use Rattle.decimal18.specs.Down.{negated};
 ghost use Rattle.decimal18.specs.Digits.{signed};
 ghost use Rattle.decimal18.specs.Text.{text_of};
@@ -8,8 +8,8 @@ use crate::magnitude::Magnitude;
 use crate::powers::power_of_ten;
 use crate::print::{push_after_point, sign};
 use crate::sign::{is_negative, with_sign};
-use crate::{Bytes, OutOfMemory};
 use itoa::Buffer;
+use line_text::{Bytes, OutOfMemory};
 use std::alloc::Global;
 use std::marker::Model;
 
@@ -47,6 +47,16 @@ impl Dec {
             places: places as u32,
         };
         Dec::from_magnitude(is_negative(coefficient), size)
+    }
+
+    /// A whole number.
+    pub fn whole(number: i32) -> Dec
+        ensures { result ≡ scaled number 0 }
+    {
+        Dec {
+            coefficient: number as i64,
+            places: 0,
+        }
     }
 
     /// The number of this size, with the sign `-` where it is to be negative, and `None` where it is

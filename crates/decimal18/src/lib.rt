@@ -2,7 +2,6 @@
 #![tactic(auto)]
 
 mod arithmetic;
-mod byte_list;
 mod decimal;
 mod direction;
 #[cfg(test)]
@@ -28,7 +27,6 @@ mod tests;
 pub use arithmetic::{
     add_down, add_up, div_down, div_up, mul_down, mul_up, ratio_down, ratio_up, sub_down, sub_up,
 };
-pub use byte_list::Bytes;
 pub use decimal::Dec;
 pub use laws::{
     down_is_greatest, one_canonical_form, order_is_that_of_values, up_is_least, worked_roundings,
@@ -39,4 +37,3 @@ pub use literal_laws::{
     digits_and_power_decide_bounds, printed_bounds_are_read_again, texts_spell_one_literal,
     worked_literals,
 };
-pub use std::alloc::AllocError as OutOfMemory;

@@ -2,7 +2,7 @@ ghost use Rattle.std.specs.Prelude.{◌≡◌, ◌+◌, ◌/◌, ◌%◌, ◌^�
 ghost use Rattle.decimal18.specs.Text.{sign_of, after_point, last_digits};
 
 use crate::powers::power_of_ten;
-use crate::{Bytes, OutOfMemory};
+use line_text::{Bytes, OutOfMemory};
 
 /// `-` for a number below 0.
 pub fn sign(coefficient: i64) -> &'static [u8]

@@ -1,11 +1,7 @@
-use crate::{Bytes, Dec, add_down, add_up};
+use crate::{Dec, add_down, add_up};
 use std::test::Fail;
 
 const MOST: i64 = 999_999_999_999_999_999;
-
-fn whole(n: i64) -> Result<Dec, &'static str> {
-    Dec::new(n, 0).ok_or("not a bound")
-}
 
 fn dec(coefficient: i64, places: u8) -> Result<Dec, &'static str> {
     Dec::new(coefficient, places).ok_or("not a bound")
@@ -13,9 +9,9 @@ fn dec(coefficient: i64, places: u8) -> Result<Dec, &'static str> {
 
 #[test]
 fn bounds(rt: HostRuntime) -> Result<(), Fail> {
-    assert_eq!(rt; whole(-12)?.coefficient(), -12);
-    assert_eq!(rt; whole(-12)?.places(), 0);
-    assert_eq!(rt; whole(MOST)?.coefficient(), MOST);
+    assert_eq!(rt; dec(-12, 0)?.coefficient(), -12);
+    assert_eq!(rt; dec(-12, 0)?.places(), 0);
+    assert_eq!(rt; dec(MOST, 0)?.coefficient(), MOST);
     for n in [MOST + 1, -MOST - 1, i64::MIN] {
         assert_eq!(rt; Dec::new(n, 0), None, "at {n}");
     }
@@ -43,19 +39,19 @@ fn bounds(rt: HostRuntime) -> Result<(), Fail> {
 fn sums(rt: HostRuntime) -> Result<(), Fail> {
     for (a, b, sum) in [(1, 2, 3), (-5, 3, -2), (MOST, -MOST, 0), (MOST, 0, MOST)] {
         assert_eq!(rt;
-            add_down(whole(a)?, whole(b)?),
-            Some(whole(sum)?),
+            add_down(dec(a, 0)?, dec(b, 0)?),
+            Some(dec(sum, 0)?),
             "{a} + {b}"
         );
         assert_eq!(rt;
-            add_up(whole(a)?, whole(b)?),
-            Some(whole(sum)?),
+            add_up(dec(a, 0)?, dec(b, 0)?),
+            Some(dec(sum, 0)?),
             "{a} + {b}"
         );
     }
     for (a, b) in [(MOST, 1), (-1, -MOST)] {
-        assert_eq!(rt; add_down(whole(a)?, whole(b)?), None, "{a} + {b}");
-        assert_eq!(rt; add_up(whole(a)?, whole(b)?), None, "{a} + {b}");
+        assert_eq!(rt; add_down(dec(a, 0)?, dec(b, 0)?), None, "{a} + {b}");
+        assert_eq!(rt; add_up(dec(a, 0)?, dec(b, 0)?), None, "{a} + {b}");
     }
     Ok(())
 }
@@ -74,17 +70,6 @@ fn texts(rt: HostRuntime) -> Result<(), Fail> {
         let printed = dec(n, places)?.print(rt.alloc())?;
         assert_eq!(rt; printed.as_slice(), text.as_bytes(), "at {n}");
     }
-    Ok(())
-}
-
-#[test]
-fn byte_lists(rt: HostRuntime) -> Result<(), Fail> {
-    let mut bytes = Bytes::new(rt.alloc())?;
-    bytes.push(b'a')?;
-    bytes.push(b'b')?;
-    assert_eq!(rt; bytes.as_slice(), b"ab".as_slice());
-    let copy = Bytes::from_slice(rt.alloc(), bytes.as_slice())?;
-    assert_eq!(rt; copy.as_slice(), b"ab".as_slice());
     Ok(())
 }
 

@@ -8,9 +8,9 @@ ghost use Rattle.edit_session.specs.Calls.{ask_reply, Gives};
 
 use crate::valuing::values_of;
 use answers::{Answer, AskFault, Query};
-use decimal18::OutOfMemory;
 use fixed_interval::Steps;
 use formula_ast::Name;
+use line_text::OutOfMemory;
 use sheet_rows::{RowList, Sheet};
 use std::alloc::Global;
 use std::sync::ledger::Ledger;

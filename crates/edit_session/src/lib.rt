@@ -10,7 +10,6 @@ mod session;
 mod tests;
 mod valuing;
 
-pub use decimal18::OutOfMemory;
 pub use laws::{
     every_reply_is_sound, names_of_quantities_have_values, rebuilt_sheets_reply_alike,
     sheets_keep_standing,

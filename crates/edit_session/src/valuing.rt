@@ -7,9 +7,9 @@ ghost use Rattle.value_cache.specs.Cells.{kept};
 ghost use Rattle.edit_session.specs.Replies.{row_quantities, quantities};
 ghost use Rattle.edit_session.specs.Walks.{KnowsUses, AreFresh};
 
-use decimal18::OutOfMemory;
 use fixed_interval::Steps;
 use formula_ast::names;
+use line_text::OutOfMemory;
 use sheet_rows::{Row, Sheet};
 use std::alloc::Global;
 use std::sync::ledger::Ledger;

@@ -6,14 +6,11 @@ use Rattle.exact_fraction.specs.Fraction as fraction
 use Rattle.exact_fraction.specs.Number.{ℚ, neg_ℚ, ◌≤ℚ◌}
 use Rattle.exact_fraction.specs.NumberLaws.{neg_ℚ-≤ℚ}
 use Rattle.exact_fraction.proofs.OrderLaws.{≤ℚ_left, ≤ℚ_right}
+use Rattle.decimal18.proofs.Upward.{value-negated}
 use Rattle.decimal18.specs.Bound.{Bound, value_of}
 use Rattle.decimal18.specs.Down.{negated}
 use Rattle.fixed_interval.specs.Interval.{Interval, Encloses}
 use Rattle.fixed_interval.specs.Rules.{negative_span}
-
-pub value-negated : (b : Bound) → value_of (negated b) ≡ neg_ℚ (value_of b)
-unfolding value_of neg_ℚ fraction.negated /_rec
-value-negated b = refl
 
 pub negatives_in_order : (a b : Bound) → value_of a ≤ℚ value_of b → value_of (negated b) ≤ℚ value_of (negated a)
 negatives_in_order a b h =

@@ -81,24 +81,6 @@ pub after_first : (sum t : Option Interval) (ts : List (Option Interval)) → su
 after_first None t ts = refl
 after_first (Some s) t ts = refl
 
--- a term that has left the range leaves no sum
-pub after_missing : (sum : Option Interval) (ts : List (Option Interval)) → sum_after sum (None ∷ ts) ≡ None
-after_missing None ts = sum_on-none ts
-after_missing (Some s) ts = sum_on-none ts
-
--- a step of a loop: the sum with the next term has left the range, or is there
-pub first_missing : (sum t : Option Interval) (ts : List (Option Interval)) → sum_after sum (t ∷ []) ≡ None → sum_after sum (t ∷ ts) ≡ None
-first_missing sum t ts h = after_first sum t ts ∙ ap (λ o. sum_on o ts) h ∙ sum_on-none ts
-
-pub first_there : (sum t : Option Interval) (ts : List (Option Interval)) (s : Interval) → sum_after sum (t ∷ []) ≡ Some s
-    → sum_after sum (t ∷ ts) ≡ sum_after (Some s) ts
-first_there sum t ts s h = after_first sum t ts ∙ ap (λ o. sum_on o ts) h
-
--- the end of a loop
-pub all_taken : (sum : Option Interval) → sum_after sum [] ≡ Some (unwrap_or sum zero_span)
-all_taken None = refl
-all_taken (Some s) = refl
-
 -- ---- answers
 pub missing : (o : Option Interval) (x e : Overflow) → Err x ≡ ok_or o e → o ≡ None
 missing None x e h = refl

@@ -6,7 +6,7 @@ ghost use Rattle.fixed_interval.specs.Interval.{outward};
 ghost use Rattle.fixed_interval.specs.Extremes.{hull};
 ghost use Rattle.fixed_interval.specs.Rules.{holds_zero, product_span, quotient_span};
 
-use crate::bounds::{greater, is_at_most, lesser, whole_number};
+use crate::bounds::{greater, is_at_most, lesser};
 use crate::interval::Span;
 use decimal18::{Dec, div_down, div_up, mul_down, mul_up};
 
@@ -36,7 +36,7 @@ pub(crate) fn hull(a: Option<Span>, b: Option<Span>) -> Option<Span>
 pub(crate) fn holds_zero(s: &Span) -> bool
     ensures { result ≡ holds_zero s.now }
 {
-    is_at_most(s.lo(), whole_number(0)) && is_at_most(whole_number(0), s.hi())
+    is_at_most(s.lo(), Dec::whole(0)) && is_at_most(Dec::whole(0), s.hi())
 }
 
 pub(crate) fn products(a: &Span, b: &Span) -> Option<Span>

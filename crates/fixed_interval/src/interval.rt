@@ -6,7 +6,6 @@ ghost use Rattle.fixed_interval.specs.Interval.{Encloses, IsOrdered, from_ends, 
 ghost use Rattle.fixed_interval.specs.Rules.{zero_bound, difference_span, negative_span};
 ghost use Rattle.fixed_interval.specs.Sums.{sum_after};
 
-use crate::bounds::whole_number;
 use crate::counter::Steps;
 use crate::faults::Overflow;
 use decimal18::{Dec, add_down, add_up, sub_down, sub_up};
@@ -74,7 +73,7 @@ pub fn zero() -> Span
     ensures span { result ≡ point_span zero_bound }
     ensures encloses { Encloses result (value_of zero_bound) }
 {
-    let zero = whole_number(0);
+    let zero = Dec::whole(0);
     Span { lo: zero, hi: zero }
 }
 

@@ -6,7 +6,7 @@ ghost use Rattle.decimal18.specs.Down.{up};
 ghost use Rattle.fixed_interval.specs.Interval.{Encloses};
 ghost use Rattle.fixed_interval.specs.Rules.{comparison, cut_span, floored_span, greatest_share, ratio_at, ratio_span, share_span};
 
-use crate::bounds::{greater, is_at_most, lesser, whole_number};
+use crate::bounds::{greater, is_at_most, lesser};
 use crate::counter::Steps;
 use crate::faults::{Overflow, Truth};
 use crate::interval::Span;
@@ -75,7 +75,7 @@ fn greatest_share(part: &Span, whole: &Span) -> Option<Dec>
     ensures { result ≡ up (greatest_share part.now whole.now) }
 {
     if is_at_most(whole.lo(), part.hi()) {
-        return Some(whole_number(1));
+        return Some(Dec::whole(1));
     }
     div_up(part.hi(), whole.lo())
 }

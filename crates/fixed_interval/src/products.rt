@@ -6,11 +6,11 @@ ghost use Rattle.fixed_interval.specs.Interval.{Encloses};
 ghost use Rattle.fixed_interval.specs.Rules.{product_span, square_span, quotient};
 ghost use Rattle.fixed_interval.specs.Powers.{power, power_span, power_steps, steps_of_power};
 
-use crate::bounds::whole_number;
 use crate::corners::{holds_zero, hull, products, quotients, squares};
 use crate::counter::Steps;
 use crate::faults::{ArithFault, Overflow};
 use crate::interval::{Span, point, zero};
+use decimal18::Dec;
 use std::sync::ledger::Ledger;
 
 /// The span of the products of a number in `a` and a number in `b`, its ends rounded outwards. It
@@ -110,6 +110,6 @@ pub fn pow<L: Ledger>(a: &Span, k: i8, steps: &mut Steps<L>) -> Result<Span, Ari
     if k > 0 {
         return Ok(power);
     }
-    let one = point(whole_number(1), steps);
+    let one = point(Dec::whole(1), steps);
     div(&one, &power, steps)
 }

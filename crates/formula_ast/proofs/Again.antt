@@ -1,4 +1,5 @@
 -- The printed text of a formula that was read is read as the formula again.
+use Rattle.std.proofs.lemmas.Bool.{and_from}
 use Rattle.std.specs.Prelude.{◌≡◌, ℕ, zero, suc, ◌+◌, ◌-◌, ◌≤◌, ◌==◌, ◌&&◌, Bool, true, false, cond, nat_le, unsigned_abs, List, [], ◌∷◌, ◌++◌, take, drop, Option, None, Some, IfSome, count_by, Ok, refl}
 use Rattle.std.proofs.Common.{sym, ap, subst, ◌∙◌, arith}
 use Rattle.std.proofs.lemmas.List.Sums.{sum_by-append}
@@ -7,10 +8,10 @@ use Rattle.std.specs.List.{list_all, prefix_len}
 use Rattle.std.specs.Char.{is_ascii_digit}
 use Rattle.decimal18.specs.Bound.{Bound}
 use Rattle.decimal18.specs.Literal.{parsed}
-use Rattle.decimal18.proofs.LiteralDigits.{both_true}
 use Rattle.formula_ast.specs.Names.{begins_name, is_name}
 use Rattle.formula_ast.specs.Trees.{Tree, nodes}
-use Rattle.formula_ast.specs.Tokens.{is_blank, goes_on_run, literal_len, bound_in, power_of, is_glued, number_kind, name_kind, mark_kind, len_of, kind_of, tokens, kinds, kinds_in}
+use Rattle.line_text.specs.Blanks.{is_blank}
+use Rattle.formula_ast.specs.Tokens.{goes_on_run, literal_len, bound_in, power_of, is_glued, number_kind, name_kind, mark_kind, len_of, kind_of, tokens, kinds, kinds_in}
 use Rattle.formula_ast.specs.Grammar.{Written, Digits, Word, Minused, Both, Powered, Group, spelling, exponent_spelling, number_of, exponent_of, meant, Spells, SpellsText}
 use Rattle.formula_ast.specs.Machine.{writings, first_stage, run}
 use Rattle.formula_ast.specs.Printing.{print}
@@ -93,7 +94,7 @@ run_all p (c ∷ cs) = by (p c) refl (run_all p cs) where
   by false e h = refl
   by true e h =
       let one : 1 + prefix_len p cs ≡ suc (prefix_len p cs) = omega arith in
-      ap (λ k. list_all p (take k (c ∷ cs))) one ∙ both_true (p c) (list_all p (take (prefix_len p cs) cs)) e h
+      ap (λ k. list_all p (take k (c ∷ cs))) one ∙ and_from (p c) (list_all p (take (prefix_len p cs) cs)) e h
 
 named_regular : (run : List ℕ) → (is_name run ≡ true → IsNamed run) → IsKindRegular (name_kind run)
 named_regular run h = by (is_name run) refl where

@@ -6,9 +6,10 @@ use Rattle.formula_ast.specs.Trees.{Tree, Number, Variable, Opposite, Joined, Ra
 use Rattle.formula_ast.specs.Grammar.{SpellsText}
 use Rattle.formula_ast.specs.Reading.{reading_of}
 use Rattle.formula_ast.specs.Views.{tree_of}
-use Rattle.formula_ast.specs.Answers.{Gives}
+use Rattle.line_text.specs.Memory.{GivesBy}
 use Rattle.formula_ast.specs.declared.formula.Formula.{Formula}
 use Rattle.formula_ast.specs.declared.fault.FormulaFault.{FormulaFault}
+use Rattle.formula_ast.specs.declared.fault.FormulaFault.TheVariants.{OutOfMemory}
 use Rattle.formula_ast.proofs.PrintedTokens.{IsRegular, IsDigit}
 use Rattle.formula_ast.proofs.Sound.{read_spelt}
 use Rattle.formula_ast.proofs.Again.{read_regular}
@@ -28,10 +29,10 @@ regular_exponents (Raised a k) h = (regular_exponents a h.0, digit_exponent k h.
 pub read_exponents : (text : List ℕ) (f : Tree) → reading_of text ≡ Ok f → HasExponents f
 read_exponents text f h = regular_exponents f (read_regular text f h)
 
-pub given_spelt : (text : List ℕ) (r : Result Formula FormulaFault) → Gives r (reading_of text) → IfOk r (λ f. SpellsText text (tree_of f))
+pub given_spelt : (text : List ℕ) (r : Result Formula FormulaFault) → GivesBy tree_of OutOfMemory r (reading_of text) → IfOk r (λ f. SpellsText text (tree_of f))
 given_spelt text (Ok f) h = read_spelt text (tree_of f) h
 given_spelt text (Err fault) h = tt
 
-pub given_exponents : (text : List ℕ) (r : Result Formula FormulaFault) → Gives r (reading_of text) → IfOk r (λ f. HasExponents (tree_of f))
+pub given_exponents : (text : List ℕ) (r : Result Formula FormulaFault) → GivesBy tree_of OutOfMemory r (reading_of text) → IfOk r (λ f. HasExponents (tree_of f))
 given_exponents text (Ok f) h = read_exponents text (tree_of f) h
 given_exponents text (Err fault) h = tt

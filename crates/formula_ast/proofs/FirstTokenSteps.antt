@@ -5,50 +5,18 @@ use Rattle.std.specs.Char.{is_ascii_digit}
 use Rattle.std.proofs.lemmas.List.Sums.{prefix_len-le-length}
 use Rattle.std.proofs.lemmas.Bool.{eqb-true}
 use Rattle.std.proofs.lemmas.Bool.Decides.{nat_tests}
+use Rattle.line_text.specs.Blanks.{is_blank, IsTight}
+use Rattle.line_text.proofs.PieceSteps.{blanks_tight, blanks_passed}
 use Rattle.decimal18.specs.Literal.{parsed}
 use Rattle.decimal18.specs.Bound.{Bound}
 use Rattle.formula_ast.specs.Names.{begins_name, is_name}
-use Rattle.formula_ast.specs.Tokens.{is_blank, goes_on_run, literal_len, len_of, kind_of, is_glued, bound_in, number_kind, name_kind, mark_kind, power_of, tokens}
-use Rattle.formula_ast.specs.FirstTokens.{IsTight, IsSmall, IsPassed, IsFirstToken}
+use Rattle.formula_ast.specs.Tokens.{goes_on_run, literal_len, len_of, kind_of, is_glued, bound_in, number_kind, name_kind, mark_kind, power_of, Token, token_at, tokens}
+use Rattle.formula_ast.specs.FirstTokens.{IsSmall, IsPassed, IsFirstToken}
 use Rattle.formula_ast.specs.Reading.{is_open, opens_next}
 use Rattle.formula_ast.specs.declared.token.Kind.{Kind}
 use Rattle.formula_ast.specs.declared.token.Kind.TheVariants.{Number, Name, Glued, Wrong}
 
--- skipped bytes are passed
-pub tokens_skip : (text : List ℕ) (skip at : ℕ) → tokens text skip at ≡ tokens (drop skip text) 0 (at + skip)
-tokens_skip [] zero at = refl
-tokens_skip (byte ∷ bytes) zero at =
-    let e : at ≡ at + 0 = omega arith in ap (tokens (byte ∷ bytes) 0) e
-tokens_skip [] (suc skip) at = refl
-tokens_skip (byte ∷ bytes) (suc skip) at =
-    let e : at + 1 + skip ≡ at + suc skip = omega arith in
-    tokens_skip bytes skip (at + 1) ∙ ap (tokens (drop skip bytes) 0) e
-
 -- blanks are passed
-blank_passed : (byte : ℕ) (bytes : List ℕ) (n at : ℕ) (t : Bool) → is_blank byte ≡ t →
-    tokens bytes 0 (at + 1) ≡ tokens (drop n bytes) 0 (at + 1 + n) →
-    tokens (byte ∷ bytes) 0 at ≡ tokens (drop (cond t (1 + n) 0) (byte ∷ bytes)) 0 (at + cond t (1 + n) 0)
-blank_passed byte bytes n at false e h = let z : at ≡ at + 0 = omega arith in ap (tokens (byte ∷ bytes) 0) z
-blank_passed byte bytes n at true e h =
-    let more : 1 + n ≡ suc n = omega arith in
-    let z : at + 1 + n ≡ at + suc n = omega arith in
-    rw (e, more) (h ∙ ap (tokens (drop n bytes) 0) z)
-
-blanks_passed : (text : List ℕ) (at : ℕ) →
-    tokens text 0 at ≡ tokens (drop (prefix_len is_blank text) text) 0 (at + prefix_len is_blank text)
-blanks_passed [] at = refl
-blanks_passed (byte ∷ bytes) at =
-    blank_passed byte bytes (prefix_len is_blank bytes) at (is_blank byte) refl (blanks_passed bytes (at + 1))
-
-blank_tight : (byte : ℕ) (bytes : List ℕ) (n : ℕ) (t : Bool) → is_blank byte ≡ t → IsTight (drop n bytes) →
-    IsTight (drop (cond t (1 + n) 0) (byte ∷ bytes))
-blank_tight byte bytes n false e h = e
-blank_tight byte bytes n true e h = let more : 1 + n ≡ suc n = omega arith in rw more h
-
-blanks_tight : (text : List ℕ) → IsTight (drop (prefix_len is_blank text) text)
-blanks_tight [] = tt
-blanks_tight (byte ∷ bytes) = blank_tight byte bytes (prefix_len is_blank bytes) (is_blank byte) refl (blanks_tight bytes)
-
 pub passed : (text : List ℕ) → IsPassed text (drop (prefix_len is_blank text) text)
 passed text =
     let n : ℕ = prefix_len is_blank text in
@@ -58,7 +26,7 @@ passed text =
     record {
       tight = blanks_tight text;
       within = omega (arith, long);
-      same = λ at. rw back (blanks_passed text at);
+      same = λ at. rw back (blanks_passed Token len_of token_at text at);
     }
 
 -- ---- the token at the start

@@ -20,3 +20,5 @@ pub mod SyntaxPlaces
 pub mod Exponents
 pub mod LongestLiterals
 pub mod NoMemory
+pub mod MovedPlaces
+pub mod FaultPlaces

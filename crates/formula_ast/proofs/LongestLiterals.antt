@@ -1,4 +1,5 @@
 -- The number at the start of a text is the longest literal there.
+use Rattle.std.proofs.lemmas.Bool.{and_parts, and_from}
 use Rattle.std.specs.Prelude.{◌≡◌, ℕ, zero, suc, ◌+◌, ◌≤◌, ◌<◌, ◌==◌, ◌&&◌, ◌||◌, Bool, true, false, cond, nat_lt, nat_le, min, List, [], ◌∷◌, ◌++◌, length, take, drop, Option, None, Some, IsSome, refl}
 use Rattle.std.proofs.Common.{sym, ap, subst, ◌∙◌, arith, append_assoc, length-append, take-append-drop}
 use Rattle.std.proofs.Math.Seq.{take-add, drop-append_seam}
@@ -6,11 +7,11 @@ use Rattle.std.proofs.lemmas.Bool.Decides.{nat_tests}
 use Rattle.std.proofs.lemmas.List.{length-take}
 use Rattle.std.specs.List.{prefix_len}
 use Rattle.std.specs.Char.{is_ascii_digit}
+use Rattle.line_text.proofs.WrittenTexts.{run_whole}
 use Rattle.decimal18.specs.Literal.{Sign, Unsigned, Plus, Minus, Exponent, Literal, sign_text, point_text, exponent_text, text_of_literal, are_digits, is_exponent_letter, are_exponent_digits, is_exponent, Spells, leading_sign, after_sign, literal_of}
-use Rattle.decimal18.proofs.LiteralDigits.{cut_true, both_true}
 use Rattle.decimal18.proofs.LiteralText.{read_spelt, spelt_read}
 use Rattle.formula_ast.specs.Tokens.{with_point, point_len, sign_len, with_letter, exponent_len, literal_len}
-use Rattle.formula_ast.proofs.PrintedNumbers.{run_whole, sign_kept, digit_no_sign}
+use Rattle.formula_ast.proofs.PrintedNumbers.{sign_kept, digit_no_sign}
 
 -- ---- it is a literal
 -- the first digits of a run
@@ -27,7 +28,7 @@ first_digits (c ∷ cs) (suc n) h = by (is_ascii_digit c) refl h (λ k. first_di
   by false e k f = absurd (omega arith)
   by true e k f =
       let rest = f (omega arith) in
-      record { all = both_true (is_ascii_digit c) (are_digits (take n cs)) e rest.all; count = omega (arith, rest.count) }
+      record { all = and_from (is_ascii_digit c) (are_digits (take n cs)) e rest.all; count = omega (arith, rest.count) }
 
 record IsPointPart (text : List ℕ) : Type 0 where
   digits : List ℕ
@@ -102,9 +103,9 @@ exponent_part (c ∷ cs) = by (is_exponent_letter c) refl (min 3 (prefix_len is_
       let few : nat_le (length digits) 3 ≡ true = grind (arith, nat_tests, run.count) in
       record {
         exponent = Some (record { letter = c; sign = leading_sign cs; digits = digits });
-        formed = both_true (is_exponent_letter c) (are_exponent_digits digits) e
-            (both_true (are_digits digits) (nat_lt 0 (length digits) && nat_le (length digits) 3) run.all
-            (both_true (nat_lt 0 (length digits)) (nat_le (length digits) 3) some few));
+        formed = and_from (is_exponent_letter c) (are_exponent_digits digits) e
+            (and_from (are_digits digits) (nat_lt 0 (length digits) && nat_le (length digits) 3) run.all
+            (and_from (nat_lt 0 (length digits)) (nat_le (length digits) 3) some few));
         written = ap (λ t. c ∷ (t ++ digits)) (leading_sign_text cs)
             ∙ ap (λ t. c ∷ t) (sym (take-add (sign_len cs) (suc n) cs))
             ∙ sym (ap (λ t. take (cond t (with_letter (sign_len cs) (min 3 (prefix_len is_ascii_digit (drop (sign_len cs) cs)))) 0) (c ∷ cs)) e
@@ -156,7 +157,7 @@ number_is_literal byte bytes d =
 run_least : (digits rest : List ℕ) → are_digits digits ≡ true → length digits ≤ prefix_len is_ascii_digit (digits ++ rest)
 run_least [] rest h = omega arith
 run_least (c ∷ cs) rest h =
-    let parts = cut_true (is_ascii_digit c) (are_digits cs) h in
+    let parts = and_parts (is_ascii_digit c) (are_digits cs) h in
     let more = run_least cs rest parts.1 in
     let first : prefix_len is_ascii_digit ((c ∷ cs) ++ rest) ≡ 1 + prefix_len is_ascii_digit (cs ++ rest) =
     ap (λ t. cond t (1 + prefix_len is_ascii_digit (cs ++ rest)) 0) parts.0 in
@@ -176,15 +177,15 @@ sign_again Plus digits rest h some = (refl, refl)
 sign_again Minus digits rest h some = (refl, refl)
 sign_again Unsigned [] rest h some = absurd (omega arith)
 sign_again Unsigned (c ∷ cs) rest h some =
-    let digit = (cut_true (is_ascii_digit c) (are_digits cs) h).0 in
+    let digit = (and_parts (is_ascii_digit c) (are_digits cs) h).0 in
     let no : (c == 43 || c == 45) ≡ false = grind (arith, nat_tests) in
     (ap (λ t. cond t 1 0) no, refl)
 
 exponent_least : (e : Exponent) (rest : List ℕ) → is_exponent (Some e) ≡ true → length (exponent_text (Some e)) ≤ exponent_len (exponent_text (Some e) ++ rest)
 exponent_least e rest h =
-    let tests = cut_true (is_exponent_letter e.letter) (are_exponent_digits e.digits) h in
-    let digits = cut_true (are_digits e.digits) (nat_lt 0 (length e.digits) && nat_le (length e.digits) 3) tests.1 in
-    let counts = cut_true (nat_lt 0 (length e.digits)) (nat_le (length e.digits) 3) digits.1 in
+    let tests = and_parts (is_exponent_letter e.letter) (are_exponent_digits e.digits) h in
+    let digits = and_parts (are_digits e.digits) (nat_lt 0 (length e.digits) && nat_le (length e.digits) 3) tests.1 in
+    let counts = and_parts (nat_lt 0 (length e.digits)) (nat_le (length e.digits) 3) digits.1 in
     let some : 0 < length e.digits = positive (length e.digits) counts.0 in
     let few : length e.digits ≤ 3 = at_most (length e.digits) counts.1 in
     let text = (sign_text e.sign ++ e.digits) ++ rest in
@@ -247,14 +248,14 @@ literal_least whole (d ∷ ds) rest None a b f =
     (run_whole is_ascii_digit whole after a refl) (drop-append_seam whole after) (omega (arith, point, run)) in
     omega (arith, all)
 literal_least whole [] rest (Some e) a b f =
-    let letter = (cut_true (is_exponent_letter e.letter) (are_exponent_digits e.digits) f).0 in
+    let letter = (and_parts (is_exponent_letter e.letter) (are_exponent_digits e.digits) f).0 in
     let after = exponent_text (Some e) ++ rest in
     let none = letter_no_digit e.letter ((sign_text e.sign ++ e.digits) ++ rest) letter in
     let all = parts_least (whole ++ after) after after (length whole) 0 (length (exponent_text (Some e)))
     (run_whole is_ascii_digit whole after a none.0) (drop-append_seam whole after) none.1 refl (exponent_least e rest f) in
     omega (arith, all)
 literal_least whole (d ∷ ds) rest (Some e) a b f =
-    let letter = (cut_true (is_exponent_letter e.letter) (are_exponent_digits e.digits) f).0 in
+    let letter = (and_parts (is_exponent_letter e.letter) (are_exponent_digits e.digits) f).0 in
     let last = exponent_text (Some e) ++ rest in
     let after = 46 ∷ ((d ∷ ds) ++ last) in
     let none = letter_no_digit e.letter ((sign_text e.sign ++ e.digits) ++ rest) letter in

@@ -1,4 +1,5 @@
 -- Names: the bytes that hold one, what a text is that has a second point, and how long a name is.
+use Rattle.std.proofs.lemmas.Bool.{and_parts}
 use Rattle.std.proofs.Common.{◌≡◌, ℕ, ◌-◌, ◌<◌, ◌≤◌, ◌==◌, ◌&&◌, Bool, true, false, List, [], ◌∷◌, ◌++◌, length, take, drop, replicate, refl, sym, ◌∙◌, ap, arith, length-append}
 use Rattle.std.specs.List.{slice_split, list_all, join_with_byte}
 use Rattle.std.proofs.lemmas.List.{length-replicate, drop-replicate, take-append-le, take_all}
@@ -34,22 +35,17 @@ two_points text plain column rest after e f =
     (omega (arith, length-slice_split (λ byte. byte == 46) after))
 
 -- names are short
-both_true : (a b : Bool) → (a && b) ≡ true → (a ≡ true) × (b ≡ true)
-both_true true true h = (refl, refl)
-both_true true false h = absurd (cc)
-both_true false b h = absurd (cc)
-
 pub plain_short : (text : List ℕ) → is_plain_name text ≡ true → length text ≤ 24
 plain_short [] h = omega arith
 plain_short (byte ∷ bytes) h =
-    let few = both_true (list_all goes_on_name bytes) _ (both_true (begins_name byte) _ h).1 in
+    let few = and_parts (list_all goes_on_name bytes) _ (and_parts (begins_name byte) _ h).1 in
     grind (arith, few.1)
 
 parts_short : (parts : List (List ℕ)) → are_name_parts parts ≡ true → length (join_with_byte 46 parts) ≤ 49
 parts_short [] h = absurd (cc)
 parts_short (plain ∷ []) h = omega (arith, plain_short plain h)
 parts_short (table ∷ column ∷ []) h =
-    let both = both_true (is_plain_name table) _ h in
+    let both = and_parts (is_plain_name table) _ h in
     omega (arith, plain_short table both.0, plain_short column both.1, length-append table (46 ∷ column))
 parts_short (table ∷ column ∷ other ∷ others) h = absurd (cc)
 

@@ -1,5 +1,6 @@
 -- The text of a number is one token, whatever stands after it but a letter, a digit, `_` or a point; and a
 -- number that was read is an unsigned bound.
+use Rattle.std.proofs.lemmas.Bool.{and_parts, and_from}
 use Rattle.std.specs.Prelude.{◌≡◌, ℕ, zero, suc, ◌+◌, ◌*◌, ◌/◌, ◌%◌, ◌^◌, ◌<◌, ◌==◌, Bool, true, false, cond, nat_lt, ℤ, pos, unsigned_abs, int_div, List, [], ◌∷◌, ◌++◌, length, drop, decimal, Option, None, Some, option_map, refl}
 use Rattle.std.proofs.Common.{sym, ap, subst, ◌∙◌, arith, append_assoc, length-append}
 use mathlib.Core.List.{append-nil}
@@ -11,12 +12,14 @@ use Rattle.std.proofs.lemmas.List.Folds.{list_all-append}
 use Rattle.std.specs.List.{list_all, prefix_len}
 use Rattle.std.specs.Char.{is_ascii_digit}
 use Rattle.std.specs.Str.Parse.{digits_value}
+use Rattle.line_text.proofs.WrittenTexts.{run_whole}
+use Rattle.decimal18.proofs.TextAgain.{last_are_digits, length_last}
 use Rattle.decimal18.specs.Bound.{Bound, scaled, canonical, IsBound, IsCanonical}
 use Rattle.decimal18.specs.Digits.{signed}
 use Rattle.decimal18.specs.Text.{last_digits, sign_of, after_point, text_of}
 use Rattle.decimal18.specs.Literal.{Sign, Unsigned, Exponent, Literal, is_minus, raised, lowered, are_digits, is_exponent_letter, leading_digits, after_digits, leading_point, after_leading_point, leading_sign, after_sign, exponent_of, unsigned_literal, literal_of, exact_of, is_bound, as_bound, in_range, read, parsed}
 use Rattle.decimal18.proofs.Canonical.{IsReduced-canonical}
-use Rattle.decimal18.proofs.LiteralDigits.{numerals, cut_true, both_true}
+use Rattle.decimal18.proofs.LiteralDigits.{numerals}
 use Rattle.formula_ast.specs.Tokens.{goes_on_run, with_point, point_len, exponent_len, literal_len, bound_in, is_glued}
 
 -- a number that formulas may have: an unsigned bound
@@ -27,12 +30,6 @@ pub record IsPrintable (q : Bound) : Type 0 where
   pub unsigned : q.coefficient ≡ pos size
 
 -- ---- what stands after a token that is not glued
-pub run_whole : (p : ℕ → Bool) (xs rest : List ℕ) → list_all p xs ≡ true → prefix_len p rest ≡ 0 → prefix_len p (xs ++ rest) ≡ length xs
-run_whole p [] rest all none = none
-run_whole p (x ∷ xs) rest all none =
-    let parts = cut_true (p x) (list_all p xs) all in
-    ap (λ t. cond t (1 + prefix_len p (xs ++ rest)) 0) parts.0 ∙ ap (λ n. 1 + n) (run_whole p xs rest parts.1 none) ∙ omega arith
-
 pub no_run : (rest : List ℕ) → is_glued rest ≡ false → prefix_len goes_on_run rest ≡ 0
 no_run [] h = refl
 no_run (c ∷ cs) h = ap (λ t. cond t (1 + prefix_len goes_on_run cs) 0) h
@@ -58,17 +55,6 @@ no_exponent (c ∷ cs) h =
 -- ---- the length of the text of a number
 digit_byte : (d : ℕ) → d < 10 → is_ascii_digit (48 + d) ≡ true
 digit_byte d below = grind (arith, nat_tests)
-
-last_are_digits : (p n : ℕ) → are_digits (last_digits p n) ≡ true
-last_are_digits zero n = refl
-last_are_digits (suc p) n =
-    list_all-append is_ascii_digit (last_digits p (n / 10)) ((48 + n % 10) ∷ [])
-    ∙ both_true _ _ (last_are_digits p (n / 10)) (both_true _ _ (digit_byte (n % 10) (omega arith)) refl)
-
-length_last : (p n : ℕ) → length (last_digits p n) ≡ p
-length_last zero n = refl
-length_last (suc p) n =
-    length-append (last_digits p (n / 10)) ((48 + n % 10) ∷ []) ∙ ap (λ k. k + 1) (length_last p (n / 10)) ∙ omega arith
 
 after_digit : (p n : ℕ) (rest : List ℕ) → is_glued rest ≡ false → prefix_len is_ascii_digit (after_point p n ++ rest) ≡ 0
 after_digit zero n rest h = no_digit rest h
@@ -116,7 +102,7 @@ starts_digit (c ∷ cs) = is_ascii_digit c
 
 starts : (xs rest : List ℕ) → are_digits xs ≡ true → 0 < length xs → starts_digit (xs ++ rest) ≡ true
 starts [] rest all some = absurd (omega arith)
-starts (c ∷ cs) rest all some = (cut_true (is_ascii_digit c) (are_digits cs) all).0
+starts (c ∷ cs) rest all some = (and_parts (is_ascii_digit c) (are_digits cs) all).0
 
 -- the text of an unsigned number is the literal at the start
 pub record IsNumeral (w : List ℕ) : Type 0 where
@@ -162,9 +148,6 @@ sign_kept sign text l h = by (nat_lt 0 (prefix_len is_ascii_digit text)) (expone
 
 abbrev IsWhole : ℤ → Type 0
 IsWhole c = (n : ℕ) × (c ≡ pos n)
-
-tenth_whole : (n : ℕ) → IsWhole (int_div (pos n) (pos 10))
-tenth_whole n = (n / 10, refl)
 
 canonical_whole : (p n : ℕ) → IsWhole (canonical (pos n) p).coefficient
 canonical_whole zero n = (n, refl)

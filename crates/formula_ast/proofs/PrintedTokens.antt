@@ -1,4 +1,5 @@
 -- The tokens of the printed text are those of the formula as it is printed.
+use Rattle.std.proofs.lemmas.Bool.{and_from}
 use Rattle.std.specs.Prelude.{◌≡◌, ℕ, zero, suc, ◌+◌, ◌-◌, ◌≤◌, Bool, true, false, cond, nat_lt, nat_le, ℤ, pos, negsuc, unsigned_abs, List, [], ◌∷◌, ◌++◌, length, take, drop, codes, decimal, None, Some, refl}
 use Rattle.std.proofs.Common.{sym, ap, ◌∙◌, arith, append_assoc}
 use mathlib.Core.List.{append-nil}
@@ -7,14 +8,15 @@ use Rattle.std.proofs.lemmas.Bool.Decides.{nat_tests}
 use Rattle.std.proofs.lemmas.Fmt.{decimal_digit}
 use Rattle.std.specs.List.{list_all, prefix_len}
 use Rattle.std.specs.Char.{is_ascii_digit}
+use Rattle.line_text.proofs.WrittenTexts.{run_whole}
 use Rattle.decimal18.specs.Bound.{Bound}
 use Rattle.decimal18.specs.Literal.{parsed}
 use Rattle.decimal18.specs.Text.{text_of}
-use Rattle.decimal18.proofs.LiteralDigits.{both_true}
 use Rattle.decimal18.proofs.TextAgain.{read_again}
 use Rattle.formula_ast.specs.Names.{begins_name, is_name}
 use Rattle.formula_ast.specs.Trees.{Tree, Number, Variable, Opposite, Joined, Raised}
-use Rattle.formula_ast.specs.Tokens.{is_blank, goes_on_run, literal_len, bound_in, power_of, is_glued, number_kind, name_kind, mark_kind, len_of, kind_of, Token, tokens, kinds}
+use Rattle.line_text.specs.Blanks.{is_blank}
+use Rattle.formula_ast.specs.Tokens.{goes_on_run, literal_len, bound_in, power_of, is_glued, number_kind, name_kind, mark_kind, len_of, kind_of, Token, tokens, kinds}
 use Rattle.formula_ast.specs.Grammar.{Written, Both, Powered, Group, tight, spelling, exponent_spelling}
 use Rattle.formula_ast.specs.Printing.{binding, symbol, guarded, exponent_text, print}
 use Rattle.formula_ast.specs.declared.token.Sign.{Sign}
@@ -22,7 +24,7 @@ use Rattle.formula_ast.specs.declared.token.Sign.TheVariants.{Plus, Minus, Times
 use Rattle.formula_ast.specs.declared.token.Kind.{Kind}
 use Rattle.formula_ast.specs.declared.token.Kind.TheVariants.{Number as NumberToken, Name, Joins, Hat, Open, Close, Glued, Wrong}
 use Rattle.formula_ast.proofs.Printed.{in_parentheses, is_below, as_written}
-use Rattle.formula_ast.proofs.PrintedNumbers.{IsPrintable, run_whole, no_run, IsNumeral, decimal_numeral, text_numeral}
+use Rattle.formula_ast.proofs.PrintedNumbers.{IsPrintable, no_run, IsNumeral, decimal_numeral, text_numeral}
 
 -- ---- what the tokens are, without their places
 abbrev pub words : List ℕ → ℕ → List Kind
@@ -89,9 +91,6 @@ pub record IsNameToken (n : List ℕ) : Type 0 where
   pub named : is_name n ≡ true
   pub run : list_all goes_on_run n ≡ true
 
-begins_goes_on : (c : ℕ) → begins_name c ≡ true → goes_on_run c ≡ true
-begins_goes_on c h = grind (arith, nat_tests)
-
 abbrev starts_name : List ℕ → Bool
 starts_name [] = false
 starts_name (c ∷ cs) = begins_name c
@@ -146,7 +145,7 @@ power_printed n h =
     let most : nat_le (48 + n) 57 ≡ true = grind (arith, nat_tests, h.1) in
     let less : 48 + n - 48 ≡ n = omega arith in
     ap power_of (decimal_digit n (omega (arith, h.1)))
-    ∙ ap (λ t. cond t (Some (48 + n - 48)) None) (both_true (nat_le 49 (48 + n)) (nat_le (48 + n) 57) least most)
+    ∙ ap (λ t. cond t (Some (48 + n - 48)) None) (and_from (nat_le 49 (48 + n)) (nat_le (48 + n) 57) least most)
     ∙ ap Some less
 
 digit_printed : (n : ℕ) → IsDigit n → (rest : List ℕ) → is_glued rest ≡ false

@@ -1,13 +1,13 @@
 -- The reading of a text from its start: what holds before each token, and after the last.
 use Rattle.std.proofs.Common.{◌≡◌, ℕ, zero, suc, ◌+◌, ◌-◌, ◌<◌, ◌≤◌, ◌==◌, ◌&&◌, Bool, true, false, cond, nat_le, List, [], ◌∷◌, length, drop, refl, sym, ◌∙◌, ap, subst, arith, Option, None, Some, Result, Err}
 use Rattle.std.proofs.lemmas.Bool.Decides.{nat_tests}
+use Rattle.line_text.specs.Blanks.{IsTight}
+use Rattle.line_text.proofs.PieceSteps.{first_piece}
 use Rattle.formula_ast.specs.Trees.{Tree}
-use Rattle.formula_ast.specs.Tokens.{tokens, len_of, kind_of}
+use Rattle.formula_ast.specs.Tokens.{Token, token_at, tokens, len_of}
 use Rattle.formula_ast.specs.Machine.{Stage, AtOperand, AtAtom, AtEnd, AtExponent, trees, step, first_stage}
 use Rattle.formula_ast.specs.Reading.{most_nodes, or_else, word_fault, is_too_deep, is_node, node_count, refusal, unless_refused, goes_on, syntax_place, opens_next, reading, reading_of}
-use Rattle.formula_ast.specs.FirstTokens.{IsTight, IsPassed, IsFirstToken}
-use Rattle.formula_ast.specs.Answers.{Fails}
-use Rattle.formula_ast.proofs.FirstTokenSteps.{tokens_skip}
+use Rattle.formula_ast.specs.FirstTokens.{IsPassed, IsFirstToken}
 use Rattle.formula_ast.specs.declared.token.Sign.TheVariants.{Plus, Minus, Times, Over}
 use Rattle.formula_ast.specs.declared.token.Kind.{Kind}
 use Rattle.formula_ast.specs.declared.token.Kind.TheVariants.{Number, Name, Joins, Hat, Open, Close, Glued, Wrong}
@@ -71,19 +71,12 @@ goes_on_some t s place r next e h = rw (e, h) refl
 -- ---- the tokens of a text after that at its start
 first_tokens : (text after : List ℕ) (len : ℕ) (kind : Kind) (at : ℕ) → 0 < length text → IsTight text → IsFirstToken text len kind after →
     tokens text 0 at ≡ record { place = at; kind = kind; len = len } ∷ tokens after 0 (at + (length text - length after))
-first_tokens [] after len kind at some tight f = absurd (omega arith)
-first_tokens (byte ∷ bytes) after len kind at some tight f =
-    let n : ℕ = len_of (byte ∷ bytes) in
-    let long : len ≡ n = f.long in
-    let pos : 0 < len = f.positive in
-    let one : len ≡ suc (n - 1) = omega arith in
-    let same : tokens (drop (suc (n - 1)) (byte ∷ bytes)) 0 (at + len) ≡ tokens after 0 (at + len + (length (byte ∷ bytes) - len - length after)) =
-    subst (λ k. tokens (drop k (byte ∷ bytes)) 0 (at + len) ≡ tokens after 0 (at + len + (length (byte ∷ bytes) - len - length after))) one (f.same (at + len)) in
-    let here : at + 1 + (n - 1) ≡ at + len = omega arith in
-    let there : at + len + (length (byte ∷ bytes) - len - length after) ≡ at + (length (byte ∷ bytes) - length after) = omega (arith, f.within) in
-    let rest : tokens bytes (n - 1) (at + 1) ≡ tokens after 0 (at + (length (byte ∷ bytes) - length after)) =
-    tokens_skip bytes (n - 1) (at + 1) ∙ ap (tokens (drop (n - 1) bytes) 0) here ∙ same ∙ ap (tokens after 0) there in
-    rw tight (rw (f.is, long) (ap (λ ts. record { place = at; kind = kind_of (byte ∷ bytes); len = n } ∷ ts) rest))
+first_tokens text after len kind at some tight f =
+    let there : at + len + (length text - len - length after) ≡ at + (length text - length after) = omega (arith, f.within) in
+    let rest : tokens (drop (len_of text) text) 0 (at + len_of text) ≡ tokens after 0 (at + (length text - length after)) =
+    subst (λ n. tokens (drop n text) 0 (at + n) ≡ tokens after 0 (at + (length text - length after))) f.long (f.same (at + len) ∙ ap (tokens after 0) there) in
+    rw (f.is, f.long)
+    (first_piece Token len_of token_at text at tight some (subst (λ n. 0 < n) f.long f.positive) ∙ ap (λ ts. token_at at text ∷ ts) rest)
 
 -- the reading of such a text
 reading_first : (text rest after : List ℕ) (s : Stage Tree) (nodes end len : ℕ) (kind : Kind) → IsAt text rest s nodes end → 0 < length rest →
@@ -144,16 +137,6 @@ read_first text rest p =
       few = omega arith;
       read = ap (reading first_stage 0 0) (sym (p.same 0 ∙ ap (tokens rest 0) zero_on));
     }
-
--- a fault that was told
-pub fails_by : (f : FormulaFault) (r : Result Tree FormulaFault) → r ≡ Err f → Fails f r
-fails_by fault.OutOfMemory r e = tt
-fails_by (fault.Syntax at) r e = e
-fails_by (fault.UnknownFunction at) r e = e
-fails_by (fault.Number f at) r e = e
-fails_by (fault.BadPower at) r e = e
-fails_by (fault.TooDeep at) r e = e
-fails_by (fault.TooMany at) r e = e
 
 -- a test for an empty text
 pub not_empty : (n : ℕ) (b : Bool) → b ≡ (n == 0) → b ≡ false → 0 < n

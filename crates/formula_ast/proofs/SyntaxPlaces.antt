@@ -1,18 +1,19 @@
 -- The place of a refusal as `Syntax`.
+use Rattle.std.proofs.lemmas.Bool.{and_parts, and_from}
 use Rattle.std.specs.Prelude.{◌≡◌, ℕ, zero, suc, ◌+◌, ◌-◌, ◌≤◌, ◌==◌, ◌&&◌, ◌||◌, Bool, true, false, cond, not, min, List, [], ◌∷◌, ◌++◌, length, take, drop, Option, None, Some, IfSome, Result, Err, refl}
 use Rattle.std.proofs.Common.{sym, ap, subst, ◌∙◌, arith}
 use Rattle.std.proofs.lemmas.Bool.Decides.{nat_tests}
 use Rattle.std.specs.List.{list_all, prefix_len}
 use Rattle.std.specs.Char.{is_ascii_digit}
 use Rattle.decimal18.specs.Literal.{is_exponent_letter}
-use Rattle.decimal18.proofs.LiteralDigits.{cut_true, both_true}
 use Rattle.formula_ast.specs.Names.{begins_name}
 use Rattle.formula_ast.specs.Trees.{Tree}
-use Rattle.formula_ast.specs.Tokens.{is_blank, goes_on_run, with_point, point_len, sign_len, with_letter, exponent_len, literal_len, len_of, kind_of, Token, tokens, kinds, kinds_in}
+use Rattle.line_text.specs.Blanks.{is_blank, written_len}
+use Rattle.formula_ast.specs.Tokens.{goes_on_run, with_point, point_len, sign_len, with_letter, exponent_len, literal_len, len_of, kind_of, Token, tokens, kinds, kinds_in}
 use Rattle.formula_ast.specs.Grammar.{GoesOn}
 use Rattle.formula_ast.specs.Machine.{trees, Stage, AtOperand, AtAtom, AtEnd, AtExponent, factor_done, first_stage, step, finish, then_some, stages}
 use Rattle.formula_ast.specs.Reading.{at_end, unless_refused, goes_on, after_glued, syntax_place, refusal, opens_next, node_count, reading, reading_of}
-use Rattle.formula_ast.specs.Rules.{written_len, IsFirstWrong}
+use Rattle.formula_ast.specs.Rules.{IsFirstWrong}
 use Rattle.formula_ast.specs.declared.fault.FormulaFault.{FormulaFault}
 use Rattle.formula_ast.specs.declared.fault.FormulaFault.TheVariants.{Syntax}
 use Rattle.formula_ast.specs.declared.token.Kind.{Kind}
@@ -34,7 +35,7 @@ no_bytes text = record { within = omega arith; solid = refl }
 one_more : (n byte : ℕ) (bytes : List ℕ) → is_blank byte ≡ false → IsSolid n bytes → IsSolid (suc n) (byte ∷ bytes)
 one_more n byte bytes b h = record {
   within = omega (arith, h.within);
-  solid = both_true (is_solid byte) (list_all is_solid (take n bytes)) (ap not b) h.solid;
+  solid = and_from (is_solid byte) (list_all is_solid (take n bytes)) (ap not b) h.solid;
 }
 
 fewer : (text : List ℕ) (n k : ℕ) → k ≤ n → IsSolid n text → IsSolid k text
@@ -42,19 +43,19 @@ fewer text n zero less h = no_bytes text
 fewer [] n (suc k) less h = absurd (omega (arith, h.within))
 fewer (byte ∷ bytes) zero (suc k) less h = absurd (omega arith)
 fewer (byte ∷ bytes) (suc n) (suc k) less h =
-    let parts = cut_true (is_solid byte) (list_all is_solid (take n bytes)) h.solid in
+    let parts = and_parts (is_solid byte) (list_all is_solid (take n bytes)) h.solid in
     let rest = fewer bytes n k (omega arith) (record { within = omega (arith, h.within); solid = parts.1 }) in
-    record { within = omega (arith, rest.within); solid = both_true (is_solid byte) (list_all is_solid (take k bytes)) parts.0 rest.solid }
+    record { within = omega (arith, rest.within); solid = and_from (is_solid byte) (list_all is_solid (take k bytes)) parts.0 rest.solid }
 
 then_more : (text : List ℕ) (n k : ℕ) → IsSolid n text → IsSolid k (drop n text) → IsSolid (n + k) text
 then_more text zero k h g = subst (λ m. IsSolid m text) (omega arith) g
 then_more [] (suc n) k h g = absurd (omega (arith, h.within))
 then_more (byte ∷ bytes) (suc n) k h g =
-    let parts = cut_true (is_solid byte) (list_all is_solid (take n bytes)) h.solid in
+    let parts = and_parts (is_solid byte) (list_all is_solid (take n bytes)) h.solid in
     let rest = then_more bytes n k (record { within = omega (arith, h.within); solid = parts.1 }) g in
     let count : suc (n + k) ≡ suc n + k = omega arith in
     subst (λ m. IsSolid m (byte ∷ bytes)) count
-    (record { within = omega (arith, rest.within); solid = both_true (is_solid byte) (list_all is_solid (take (n + k) bytes)) parts.0 rest.solid })
+    (record { within = omega (arith, rest.within); solid = and_from (is_solid byte) (list_all is_solid (take (n + k) bytes)) parts.0 rest.solid })
 
 run_solid : (p : ℕ → Bool) → ((c : ℕ) → p c ≡ true → is_blank c ≡ false) → (text : List ℕ) → IsSolid (prefix_len p text) text
 run_solid p h [] = no_bytes []
@@ -152,7 +153,7 @@ solid_len : (n : ℕ) (text : List ℕ) → IsSolid n text → written_len text 
 solid_len zero text h = omega arith
 solid_len (suc n) [] h = absurd (omega (arith, h.within))
 solid_len (suc n) (byte ∷ bytes) h =
-    let parts = cut_true (is_solid byte) (list_all is_solid (take n bytes)) h.solid in
+    let parts = and_parts (is_solid byte) (list_all is_solid (take n bytes)) h.solid in
     let blank : is_blank byte ≡ false = not_false (is_blank byte) parts.0 in
     let rest = solid_len n bytes (record { within = omega (arith, h.within); solid = parts.1 }) in
     ap (λ t. cond (t && written_len bytes == 0) 0 (suc (written_len bytes))) blank ∙ omega (arith, rest) where

@@ -1,13 +1,9 @@
 -- A text whose tokens are read one by one, from the start.
 use Rattle.std.specs.Prelude.{◌≡◌, ℕ, ◌+◌, ◌-◌, ◌<◌, ◌≤◌, false, List, [], ◌∷◌, length, drop, IfSome}
-use Rattle.formula_ast.specs.Tokens.{is_blank, len_of, kind_of, tokens}
+use Rattle.line_text.specs.Blanks.{IsTight}
+use Rattle.formula_ast.specs.Tokens.{len_of, kind_of, tokens}
 use Rattle.formula_ast.specs.declared.token.Kind.{Kind}
 use Rattle.formula_ast.specs.declared.token.Kind.TheVariants.{Number, Name, Joins, Hat, Open, Close, Glued, Wrong}
-
--- no blank is at the start
-abbrev pub IsTight : List ℕ → Type 0
-IsTight [] = Unit {0}
-IsTight (byte ∷ bytes) = is_blank byte ≡ false
 
 -- an exponent has one digit
 abbrev pub IsSmall : Kind → Type 0

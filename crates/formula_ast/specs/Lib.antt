@@ -7,8 +7,8 @@ pub mod Grammar
 pub mod Reading
 pub mod Printing
 pub mod Views
-pub mod Answers
 pub mod Rules
+pub mod FaultPlaces
 pub mod FirstTokens
 pub mod States
 pub mod NewNames

@@ -1,7 +1,7 @@
 -- What is said of the reading and the grammar together.
 use Rattle.std.specs.Prelude.{◌≡◌, ℕ, suc, ◌+◌, ◌≤◌, ◌==◌, ◌&&◌, cond, max, List, [], ◌∷◌, ◌++◌, Some, None, Result, Ok, Err}
 use Rattle.formula_ast.specs.Trees.{Tree, nodes}
-use Rattle.formula_ast.specs.Tokens.{is_blank, Token, tokens, kinds}
+use Rattle.formula_ast.specs.Tokens.{Token, tokens, kinds}
 use Rattle.formula_ast.specs.Grammar.{Written, Digits, Word, Minused, Both, Powered, Group, meant, SpellsText, GoesOn}
 use Rattle.formula_ast.specs.Reading.{deepest, most_nodes}
 use Rattle.formula_ast.specs.declared.token.Kind.{Kind}
@@ -52,11 +52,6 @@ pub record IsFormula (text : List ℕ) (f : Tree) : Type 0 where
   pub limits : IsWithinLimits spells.written
 
 -- ---- where the grammar does not go on
--- the length of the text without its last blanks
-abbrev pub written_len : List ℕ → ℕ
-written_len [] = 0
-written_len (byte ∷ bytes) = cond (is_blank byte && written_len bytes == 0) 0 (suc (written_len bytes))
-
 -- a text of the grammar goes on after these tokens with a number
 abbrev pub MayBeNumber : List Kind → Type 0
 MayBeNumber ks = GoesOn (ks ++ NumberToken None None ∷ [])

@@ -3,6 +3,7 @@
 use Rattle.std.specs.Prelude.{ℕ, zero, suc, ◌+◌, ◌-◌, ◌==◌, ◌&&◌, ◌||◌, Bool, false, cond, nat_le, min, List, [], ◌∷◌, take, drop, Option, None, Some, Result, Ok, Err}
 use Rattle.std.specs.List.{prefix_len}
 use Rattle.std.specs.Char.{is_ascii_digit}
+use Rattle.line_text.specs.Pieces.{pieces}
 use Rattle.decimal18.specs.Bound.{Bound}
 use Rattle.decimal18.specs.Literal.{is_exponent_letter, parsed}
 use Rattle.decimal18.specs.declared.literal.NumFault.{NumFault}
@@ -10,9 +11,6 @@ use Rattle.formula_ast.specs.Names.{begins_name, goes_on_name, is_name}
 use Rattle.formula_ast.specs.declared.token.Sign.TheVariants.{Plus, Minus, Times, Over}
 use Rattle.formula_ast.specs.declared.token.Kind.{Kind}
 use Rattle.formula_ast.specs.declared.token.Kind.TheVariants.{Number, Name, Joins, Hat, Open, Close, Glued, Wrong}
-
-abbrev pub is_blank : ℕ → Bool
-is_blank byte = byte == 32 || byte == 9
 
 -- a byte of a name's run
 abbrev pub goes_on_run : ℕ → Bool
@@ -98,14 +96,13 @@ pub record Token : Type 0 where
   pub kind : Kind
   pub len : ℕ
 
+-- the token at the start of the text, whose place is `at`
+abbrev pub token_at : ℕ → List ℕ → Token
+token_at at text = record { place = at; kind = kind_of text; len = len_of text }
+
 -- the tokens of a text whose first byte has the place `at` and whose first `skip` bytes are passed
 abbrev pub tokens : List ℕ → ℕ → ℕ → List Token
-tokens [] skip at = []
-tokens (byte ∷ bytes) (suc skip) at = tokens bytes skip (at + 1)
-tokens (byte ∷ bytes) zero at =
-    cond (is_blank byte) (tokens bytes 0 (at + 1))
-    (record { place = at; kind = kind_of (byte ∷ bytes); len = len_of (byte ∷ bytes) }
-    ∷ tokens bytes (len_of (byte ∷ bytes) - 1) (at + 1))
+tokens text skip at = pieces len_of token_at text skip at
 
 abbrev pub kinds : List Token → List Kind
 kinds [] = []

@@ -1,4 +1,5 @@
-use decimal18::{NumFault, OutOfMemory};
+use decimal18::NumFault;
+use line_text::OutOfMemory;
 
 /// Why a text is not read as a formula, with the place of the token that breaks a rule, counted from 0.
 #[derive(Clone, Copy, Debug, PartialEq, Eq)]

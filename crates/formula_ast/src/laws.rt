@@ -3,6 +3,7 @@
 
 ghost use Rattle.std.specs.Prelude.{◌≡◌, ◌≢◌, ◌↔◌, ℕ, ◌≤◌, true, pos, negsuc, List, ◌∷◌, length, take, Some, None, IsSome, Ok, Err, codes, count_by, replicate};
 ghost use Rattle.std.specs.Char.{is_ascii_digit};
+ghost use Rattle.line_text.specs.Blanks.{written_len};
 ghost use Rattle.decimal18.specs.Literal.{literal_of};
 ghost use Rattle.decimal18.specs.Bound.{scaled};
 ghost use Rattle.decimal18.specs.declared.literal.NumFault.TheVariants.{NumberRange};
@@ -12,7 +13,7 @@ ghost use Rattle.formula_ast.specs.Grammar.{Written, IsGrammatical, spelling, Sp
 ghost use Rattle.formula_ast.specs.Machine.{Stage, stages, trees, first_stage};
 ghost use Rattle.formula_ast.specs.Reading.{is_open, reading_of};
 ghost use Rattle.formula_ast.specs.Printing.{print};
-ghost use Rattle.formula_ast.specs.Rules.{IsReadOrRuled, IsFormula, written_len, IsFirstWrong};
+ghost use Rattle.formula_ast.specs.Rules.{IsReadOrRuled, IsFormula, IsFirstWrong};
 ghost use Rattle.formula_ast.specs.declared.fault.FormulaFault.TheVariants.{Syntax, UnknownFunction, Number, BadPower, TooDeep, OutOfMemory};
 ghost use Rattle.formula_ast.specs.declared.token.Kind.{Kind};
 ghost use Rattle.formula_ast.specs.declared.token.Sign.TheVariants.{Plus, Minus, Times, Over};

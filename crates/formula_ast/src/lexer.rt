@@ -1,16 +1,18 @@
 //! The tokens of a text, one by one: what stands at its start, and the rest.
 
-ghost use Rattle.std.specs.Prelude.{◌≡◌, ◌<◌, ◌≤◌, ℕ, length, drop};
+ghost use Rattle.std.specs.Prelude.{◌≡◌, ◌<◌, ◌≤◌, ℕ, length};
 ghost use Rattle.std.specs.List.{prefix_len};
 ghost use Rattle.std.specs.Char.{is_ascii_digit};
 ghost use Rattle.decimal18.specs.Literal.{parsed};
 ghost use Rattle.formula_ast.specs.Reading.{opens_next};
-ghost use Rattle.formula_ast.specs.Tokens.{is_blank, goes_on_run, point_len, sign_len, exponent_len, literal_len, power_of, is_glued, bound_in, number_kind, name_kind, mark_kind, len_of, kind_of, tokens};
-ghost use Rattle.formula_ast.specs.FirstTokens.{IsFirstToken, IsTight, IsSmall, IsPassed};
+ghost use Rattle.formula_ast.specs.Tokens.{goes_on_run, point_len, sign_len, exponent_len, literal_len, power_of, is_glued, bound_in, number_kind, name_kind, mark_kind, len_of, kind_of, tokens};
+ghost use Rattle.line_text.specs.Blanks.{IsTight};
+ghost use Rattle.formula_ast.specs.FirstTokens.{IsFirstToken, IsSmall};
 
 use crate::name::{Name, begins_name, goes_on_name};
 use crate::token::{Kind, Sign};
 use decimal18::{Dec, parse};
+use line_text::{after, skip_blanks};
 
 /// The most digits of an exponent of a literal.
 const EXPONENT_DIGITS: usize = 3;
@@ -22,13 +24,6 @@ pub struct Token {
     pub len: usize,
 }
 
-/// Whether the byte is a blank, which may stand between tokens: a space or a tab.
-pub fn is_blank(byte: u8) -> bool
-    ensures { result ≡ is_blank byte }
-{
-    byte == b' ' || byte == b'\t'
-}
-
 /// Whether the byte may stand in a run of letters, digits, `_` and points.
 fn goes_on_run(byte: u8) -> bool
     ensures { result ≡ goes_on_run byte }
@@ -36,30 +31,12 @@ fn goes_on_run(byte: u8) -> bool
     goes_on_name(byte) || byte == b'.'
 }
 
-/// The number of blanks at the start.
-pub fn blanks_len(text: &[u8]) -> usize
-    ensures is { result ≡ prefix_len is_blank text.now }
-    ensures within { result ≤ length text.now }
-{
-    for (i, byte) in text.iter().enumerate() {
-        if !is_blank(*byte) {
-            return i;
-        }
-    }
-    text.len()
-}
-
 /// The number of digits at the start.
 fn digits_len(text: &[u8]) -> usize
     ensures is { result ≡ prefix_len is_ascii_digit text.now }
     ensures within { result ≤ length text.now }
 {
-    for (i, byte) in text.iter().enumerate() {
-        if !byte.is_ascii_digit() {
-            return i;
-        }
-    }
-    text.len()
+    text.iter().take_while(|byte| byte.is_ascii_digit()).count()
 }
 
 /// The length of the run of letters, digits, `_` and points at the start.
@@ -67,12 +44,7 @@ fn run_len(text: &[u8]) -> usize
     ensures is { result ≡ prefix_len goes_on_run text.now }
     ensures within { result ≤ length text.now }
 {
-    for (i, byte) in text.iter().enumerate() {
-        if !goes_on_run(*byte) {
-            return i;
-        }
-    }
-    text.len()
+    text.iter().take_while(|byte| goes_on_run(**byte)).count()
 }
 
 /// The length of a point and the digits after it; 0 where there is no point or no digit after it.
@@ -220,21 +192,6 @@ fn first_token(text: &[u8]) -> Token
         kind: mark_kind(first),
         len: 1,
     }
-}
-
-/// The text after so many bytes.
-fn after(text: &[u8], len: usize) -> &[u8]
-    requires { len ≤ length text.now }
-    ensures { result.now ≡ drop len text.now }
-{
-    &text[len..]
-}
-
-/// The text after the blanks at its start.
-pub fn skip_blanks(text: &[u8]) -> &[u8]
-    ensures { IsPassed text.now result.now }
-{
-    after(text, blanks_len(text))
 }
 
 /// The token at the start of a text that begins with one, and the text after it and the blanks that

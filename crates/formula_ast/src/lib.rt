@@ -18,7 +18,6 @@ mod tests;
 mod token;
 mod uses;
 
-pub use decimal18::OutOfMemory;
 pub use fault::FormulaFault;
 pub use formula::Formula;
 pub use laws::{
@@ -27,7 +26,6 @@ pub use laws::{
     syntax_is_placed_at_the_first_wrong_token, what_is_read_has_exponents,
     what_spells_within_limits_is_read, worked_formulas,
 };
-pub use lexer::{blanks_len, is_blank};
 pub use name::{Name, is_plain_name};
 pub use name_list::NameList;
 pub use parting::cut;

@@ -12,7 +12,8 @@ ghost use Rattle.formula_ast.specs.States.{left_of, waiting_of, outside, stage_o
 use crate::formula::Formula;
 use crate::name::Name;
 use crate::token::{Kind, Sign};
-use decimal18::{Dec, OutOfMemory};
+use decimal18::Dec;
+use line_text::OutOfMemory;
 use std::alloc::Global;
 
 /// A left operand and its operator.
@@ -120,13 +121,10 @@ fn factor_done(
 }
 
 /// The number of an operand. A literal that is no bound, which is refused, stands for 0.
-fn number_of(value: Option<Dec>) -> Option<Dec>
-    ensures { result ≡ Some (number_of value) }
+fn number_of(value: Option<Dec>) -> Dec
+    ensures { result ≡ number_of value }
 {
-    match value {
-        Some(number) => Some(number),
-        None => Dec::new(0, 0),
-    }
+    value.unwrap_or(Dec::whole(0))
 }
 
 /// The exponent of a token and its minus. A literal that is none, which is refused, stands for 0.
@@ -231,14 +229,10 @@ fn opened(level: Level, outer: &mut Vec<Level>) -> Result<State, OutOfMemory>
 }
 
 /// The state after a number.
-fn number_read(level: Level, value: Option<Dec>) -> Option<State>
-    ensures { (o : List (Waiting Tree)) → option_map (λ s. stage_on s o) result
-        ≡ Some (AtAtom (waiting_of level) (Number (number_of value)) o) }
+fn number_read(level: Level, value: Option<Dec>) -> State
+    ensures { (o : List (Waiting Tree)) → stage_on result o ≡ AtAtom (waiting_of level) (Number (number_of value)) o }
 {
-    match number_of(value) {
-        Some(number) => Some(State::Atom(level, Formula::Num(number))),
-        None => None,
-    }
+    State::Atom(level, Formula::Num(number_of(value)))
 }
 
 /// The state after a name.
@@ -259,7 +253,7 @@ fn operand_step(
         ≡ step trees (AtOperand (waiting_of level) (outside outer.old.items)) kind.now) }
 {
     match kind {
-        Kind::Number(value, _) => Ok(number_read(level, *value)),
+        Kind::Number(value, _) => Ok(Some(number_read(level, *value))),
         Kind::Name(name) => Ok(Some(name_read(level, name))),
         Kind::Joins(Sign::Minus) => Ok(Some(State::Operand(minused(level)))),
         Kind::Open => Ok(Some(opened(level, outer)?)),

@@ -1,7 +1,7 @@
 ghost use Rattle.std.specs.Prelude.{◌≡◌, [], ◌∷◌, ◌++◌, Ok, OnOk, OnErr};
 
 use crate::name::Name;
-use decimal18::OutOfMemory;
+use line_text::OutOfMemory;
 use std::alloc::Global;
 use std::marker::Model;
 

@@ -3,8 +3,8 @@ ghost use Rattle.formula_ast.specs.Views.{tree_of};
 ghost use Rattle.formula_ast.specs.Printing.{binding, guarded, exponent_text, print};
 
 use crate::formula::Formula;
-use decimal18::{Bytes, OutOfMemory};
 use itoa::Buffer;
+use line_text::{Bytes, OutOfMemory};
 use std::alloc::Global;
 
 /// How tightly the formula binds as it is printed: 0 a sum, 1 a product, 2 a sign, 3 a power, 4 an atom.

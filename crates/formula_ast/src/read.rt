@@ -1,25 +1,29 @@
-ghost use Rattle.std.specs.Prelude.{◌≡◌, IfOk};
+ghost use Rattle.std.specs.Prelude.{◌≡◌, ◌≤◌, length, IfOk, IfErr};
+ghost use Rattle.line_text.specs.Memory.{GivesBy};
 ghost use Rattle.formula_ast.specs.Trees.{HasExponents};
 ghost use Rattle.formula_ast.specs.Views.{tree_of};
 ghost use Rattle.formula_ast.specs.Grammar.{SpellsText};
 ghost use Rattle.formula_ast.specs.Reading.{reading_of};
-ghost use Rattle.formula_ast.specs.Answers.{Gives};
+ghost use Rattle.formula_ast.specs.FaultPlaces.{place_of};
+ghost use Rattle.formula_ast.specs.declared.fault.FormulaFault.TheVariants.{OutOfMemory};
 
 use crate::fault::FormulaFault;
 use crate::formula::Formula;
-use crate::lexer::{opens, skip_blanks, split_token};
+use crate::lexer::{opens, split_token};
 use crate::machine::{State, discard, finish, step};
 use crate::rules::{node_count, refusal, syntax_place};
+use line_text::skip_blanks;
 use std::alloc::Global;
 
 /// The formula that the text spells.
 ///
 /// # Errors
 ///
-/// The first token that breaks a rule, with its place in the text, or out of memory.
+/// The first token that breaks a rule, with its place within the text, or out of memory.
 pub fn read_formula(alloc: Global, text: &[u8]) -> Result<Formula, FormulaFault>
-    ensures exact { Gives result (reading_of text.now) }
+    ensures exact { GivesBy tree_of OutOfMemory result (reading_of text.now) }
     ensures spelt { IfOk result (λ f. SpellsText text.now (tree_of f)) }
+    ensures within { IfErr result (λ fault. place_of fault ≤ length text.now) }
     ensures exponents { IfOk result (λ f. HasExponents (tree_of f)) }
 {
     read_whole(alloc, text)
@@ -27,7 +31,7 @@ pub fn read_formula(alloc: Global, text: &[u8]) -> Result<Formula, FormulaFault>
 
 // The formula that the text spells, read token by token.
 fn read_whole(alloc: Global, text: &[u8]) -> Result<Formula, FormulaFault>
-    ensures { Gives result (reading_of text.now) }
+    ensures { GivesBy tree_of OutOfMemory result (reading_of text.now) }
 {
     let mut state = State::first();
     let mut outer = Vec::new(alloc);

@@ -1,7 +1,8 @@
 use crate::{
     Formula, FormulaFault, Name, NameList, is_plain_name, names, print_formula, read_formula,
 };
-use decimal18::{Bytes, NumFault};
+use decimal18::NumFault;
+use line_text::Bytes;
 use std::test::Fail;
 
 // Formulas, and how they are printed.

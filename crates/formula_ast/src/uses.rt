@@ -6,7 +6,7 @@ ghost use Rattle.formula_ast.specs.NewNames.{has, with_new, with_all_new};
 use crate::formula::Formula;
 use crate::name::Name;
 use crate::name_list::NameList;
-use decimal18::OutOfMemory;
+use line_text::OutOfMemory;
 use std::alloc::Global;
 
 /// Whether the name is in the list.

@@ -1,21 +1,12 @@
 //! The factor by which the derivative of a base is multiplied in that of its power.
 
 ghost use Rattle.std.specs.Prelude.{◌≡◌, ◌+◌, ◌≤◌, ◌<◌, Some, unsigned_abs};
-ghost use Rattle.decimal18.specs.Bound.{scaled};
 ghost use Rattle.fixed_interval.specs.Powers.{power_steps};
 ghost use Rattle.formula_box.specs.Slopes.{rising_factor, falling_factor};
 
 use decimal18::Dec;
 use fixed_interval::{Span, Steps, div, mul, point, pow};
 use std::sync::ledger::Ledger;
-
-/// A whole number of one digit.
-pub(crate) fn whole_number(digit: i64) -> Dec
-    requires { unsigned_abs digit < 10 }
-    ensures { result ≡ scaled digit 0 }
-{
-    Dec::new(digit, 0).unwrap()
-}
 
 /// `k v^(k - 1)`, for a power by `k`.
 pub(crate) fn rising_factor<L: Ledger>(v: Span, k: u8, steps: &mut Steps<L>) -> Option<Span>
@@ -24,7 +15,7 @@ pub(crate) fn rising_factor<L: Ledger>(v: Span, k: u8, steps: &mut Steps<L>) -> 
     ensures span { result ≡ rising_factor k (Some v) }
     ensures ticks { steps.new + power_steps k ≤ steps.old + 10 }
 {
-    let number = point(whole_number(k as i64), steps);
+    let number = point(Dec::whole(k as i32), steps);
     let power = pow(&v, (k - 1) as i8, steps).ok()?;
     mul(&number, &power, steps).ok()
 }
@@ -40,7 +31,7 @@ pub(crate) fn falling_factor<L: Ledger>(
     ensures span { result ≡ falling_factor k (Some v) (Some x) }
     ensures ticks { steps.new ≤ steps.old + 3 }
 {
-    let number = point(whole_number(k as i64), steps);
+    let number = point(Dec::whole(k as i32), steps);
     let product = mul(&number, &x, steps).ok()?;
     div(&product, &v, steps).ok()
 }

@@ -9,7 +9,8 @@ ghost use Rattle.formula_ast.specs.declared.token.Sign.TheVariants.{Plus, Minus,
 ghost use Rattle.fixed_interval.specs.Sums.{zero_span, both};
 ghost use Rattle.formula_box.specs.Slopes.{quotient_there, joined_slope, power_slope, where_used};
 
-use crate::factor::{falling_factor, rising_factor, whole_number};
+use crate::factor::{falling_factor, rising_factor};
+use decimal18::Dec;
 use fixed_interval::{Span, Steps, add, div, mul, neg, point, sub, zero};
 use formula_ast::Name;
 use std::sync::ledger::Ledger;
@@ -94,7 +95,7 @@ pub(crate) fn slope_of_name<L: Ledger>(name: &Name, by: &Name, steps: &mut Steps
     if by != name {
         return Slope::absent();
     }
-    Slope::found(Some(point(whole_number(1), steps)))
+    Slope::found(Some(point(Dec::whole(1), steps)))
 }
 
 /// The derivative of `-a`.

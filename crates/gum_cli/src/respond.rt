@@ -9,9 +9,9 @@ ghost use Rattle.gum_cli.specs.Script.{state_after_line, replies_of, replies_to,
 
 use crate::serve::serve;
 use answers::{LineFault, Reply};
-use decimal18::OutOfMemory;
 use edit_session::Session;
 use fixed_interval::Steps;
+use line_text::OutOfMemory;
 use script_lines::{Item, Splitter, print_reply, read_command};
 use sheet_rows::RowFault;
 use std::alloc::Global;

@@ -7,9 +7,9 @@ ghost use Rattle.gum_cli.specs.Run.{script_limit, piece_length, is_run, RoomForR
 
 use crate::laws::replies_are_sound;
 use crate::respond::respond;
-use byte_io::{Failed, Sink, Source};
-use decimal18::OutOfMemory;
+use byte_io::{Failed, Sink, Source, write_all};
 use fixed_interval::Steps;
+use line_text::OutOfMemory;
 use std::alloc::Global;
 use std::sync::ledger::Ledger;
 
@@ -39,23 +39,6 @@ enum Unread {
     Fault,
     Limit,
     OutOfMemory,
-}
-
-// Writes all of `bytes`, in as many writes as the sink takes.
-fn write_all<K: Sink>(sink: &mut K, bytes: &[u8]) -> Result<(), Failed>
-    requires { HasRoom (K.room sink.old) (length bytes.now) }
-    ensures whole { OnOk result (Wrote (K.written sink.old) (K.written sink.new)
-        (K.room sink.old) (K.room sink.new) bytes.now) }
-    ensures part { OnErr result (WrotePart (K.written sink.old) (K.written sink.new)
-        (K.room sink.old) (K.room sink.new) bytes.now) }
-    ensures cause { HasCause (K.faults sink.old) (K.faults sink.new) result }
-    ensures never_falls { K.faults sink.old ≤ K.faults sink.new }
-{
-    let mut at = 0;
-    'writes: while at < bytes.len() {
-        at += sink.write(&bytes[at..])?;
-    }
-    Ok(())
 }
 
 // Reads the source to its end.

@@ -7,9 +7,9 @@ ghost use Rattle.edit_session.specs.Live.{state_of};
 ghost use Rattle.edit_session.specs.Calls.{edit_reply, history_reply, mark_reply, ask_reply, Does};
 
 use answers::{Answer, AskFault, Command, HistoryFault, MarkFault, Reply};
-use decimal18::OutOfMemory;
 use edit_session::Session;
 use fixed_interval::Steps;
+use line_text::OutOfMemory;
 use sheet_rows::EditFault;
 use std::sync::ledger::Ledger;
 

@@ -2,13 +2,14 @@
 use Rattle.std.proofs.Common.{◌≡◌, ◌≢◌, ℕ, ◌+◌, Bool, true, false, cond, List, [], ◌∷◌, length, Some, Ok, Err, refl, subst}
 use Rattle.std.specs.Prelude.{bytes_eq, codes}
 use Rattle.formula_ast.specs.Names.{is_plain_name, is_name}
-use Rattle.line_words.specs.Words.{Word, words_from, written_part}
+use Rattle.line_text.specs.Words.{Word, words_from, written_part}
 use Rattle.sheet_rows.specs.Rows.{Row}
-use Rattle.sheet_rows.specs.Reading.{Read as ReadRow, row_read}
+use Rattle.sheet_rows.specs.Reading.{Read as ReadRow, row_at}
 use Rattle.sheet_rows.specs.declared.fault.RowFault.{RowFault}
 use Rattle.sheet_rows.specs.declared.fault.RowFault.TheVariants.{OutOfMemory as RowMemory}
-use Rattle.sheet_rows.proofs.NoMemory.{never_memory as row_never}
+use Rattle.sheet_rows.proofs.NoMemory.{row_never}
 use Rattle.answers.specs.Commands.{Add, Set, Remove, Change, Undo, Redo, Mark, Restore, Ask, AskAt}
+use Rattle.answers.specs.declared.command.Query.{Query}
 use Rattle.answers.specs.declared.command.Query.TheVariants.{Value, Dump}
 use Rattle.answers.specs.declared.fault.LineFault.{LineFault}
 use Rattle.answers.specs.declared.fault.LineFault.TheVariants.{Syntax, Row as RowRefused, LongLine as TooLong, NotBuilt, OutOfMemory}
@@ -65,32 +66,38 @@ query_at_failed end (w ∷ ws) =
     cond_failed (is_plain_name w.text) (mapped (λ query. (w.text, query)) (query_of end ws)) (Err (Syntax (w.place + 1)))
     (mapped_failed (λ query. (w.text, query)) (query_of end ws) (query_of_failed end ws)) tt
 
+query_at_told : (r : Read (List ℕ × Query)) → IfFailed r → r ≢ Err OutOfMemory
+query_at_told (Ok asked) h e = cc
+query_at_told (Err fault) h e = let same : fault ≡ OutOfMemory = cc in subst IsNoMemory same h
+
+-- the reading of a query to a mark's sheet takes no memory
+pub query_at_never : (end : ℕ) (ws : List Word) → query_at end ws ≢ Err OutOfMemory
+query_at_never end ws = query_at_told (query_at end ws) (query_at_failed end ws)
+
 row_failed : (r : ReadRow Row) → r ≢ Err RowMemory → IfFailed (row_of_line r)
 row_failed (Ok row) h = tt
 row_failed (Err fault) h = λ e. h (subst (λ (f : RowFault). let r : ReadRow Row = Err f in Err fault ≡ r) e refl)
 
-command_failed : (verb : Verb) (line : List ℕ) (end : ℕ) (w : Word) (ws : List Word) → IfFailed (command_with verb line end w ws)
-command_failed SetVerb line end w ws =
-    mapped_failed (λ row. Change (Set row)) (row_of_line (row_read line (w.place + length w.text)))
-    (row_failed (row_read line (w.place + length w.text)) (row_never line (w.place + length w.text)))
-command_failed RemoveVerb line end w ws = mapped_failed (λ name. Change (Remove name)) (sole_name end ws) (name_failed end ws)
-command_failed UndoVerb line end w ws = mapped_failed (λ done. Undo) (no_more ws) (alone_failed tt ws)
-command_failed RedoVerb line end w ws = mapped_failed (λ done. Redo) (no_more ws) (alone_failed tt ws)
-command_failed MarkVerb line end w ws = mapped_failed Mark (sole_name end ws) (name_failed end ws)
-command_failed RestoreVerb line end w ws = mapped_failed Restore (sole_name end ws) (name_failed end ws)
-command_failed AtVerb line end w ws = mapped_failed (λ asked. AskAt asked.0 asked.1) (query_at end ws) (query_at_failed end ws)
-command_failed AskVerb line end w ws = mapped_failed Ask (query_with end w ws) (query_failed end w ws)
-command_failed RowVerb line end w ws =
-    mapped_failed (λ row. Change (Add row)) (row_of_line (row_read line 0)) (row_failed (row_read line 0) (row_never line 0))
+command_failed : (verb : Verb) (text : List ℕ) (w : Word) (ws : List Word) → IfFailed (command_with verb text w ws)
+command_failed SetVerb text w ws = mapped_failed (λ row. Change (Set row)) (row_of_line (row_at text ws)) (row_failed (row_at text ws) (row_never text ws))
+command_failed RemoveVerb text w ws = mapped_failed (λ name. Change (Remove name)) (sole_name (length text) ws) (name_failed (length text) ws)
+command_failed UndoVerb text w ws = mapped_failed (λ done. Undo) (no_more ws) (alone_failed tt ws)
+command_failed RedoVerb text w ws = mapped_failed (λ done. Redo) (no_more ws) (alone_failed tt ws)
+command_failed MarkVerb text w ws = mapped_failed Mark (sole_name (length text) ws) (name_failed (length text) ws)
+command_failed RestoreVerb text w ws = mapped_failed Restore (sole_name (length text) ws) (name_failed (length text) ws)
+command_failed AtVerb text w ws = mapped_failed (λ asked. AskAt asked.0 asked.1) (query_at (length text) ws) (query_at_failed (length text) ws)
+command_failed AskVerb text w ws = mapped_failed Ask (query_with (length text) w ws) (query_failed (length text) w ws)
+command_failed RowVerb text w ws =
+    mapped_failed (λ row. Change (Add row)) (row_of_line (row_at text (w ∷ ws))) (row_failed (row_at text (w ∷ ws)) (row_never text (w ∷ ws)))
 
-line_failed : (line : List ℕ) (end : ℕ) (ws : List Word) → IfFailed (line_with line end ws)
-line_failed line end [] = tt
-line_failed line end (w ∷ ws) = mapped_failed Some (command_with (verb_of w.text) line end w ws) (command_failed (verb_of w.text) line end w ws)
+line_failed : (text : List ℕ) (ws : List Word) → IfFailed (line_with text ws)
+line_failed text [] = tt
+line_failed text (w ∷ ws) = mapped_failed Some (command_with (verb_of w.text) text w ws) (command_failed (verb_of w.text) text w ws)
 
 item_failed : (item : Item) → IfFailed (command_read item)
 unfolding line_read
 item_failed LongLine = tt
-item_failed (Line line) = line_failed line (length (written_part line)) (words_from (written_part line) 0)
+item_failed (Line line) = line_failed (written_part line) (words_from (written_part line) 0)
 
 pub never_memory : (item : Item) → command_read item ≢ Err OutOfMemory
 never_memory item h = subst IfFailed h (item_failed item)

@@ -1,10 +1,10 @@
 -- What lines add or set are regular rows.
 use Rattle.std.specs.Prelude.{ℕ, ◌+◌, List, [], ◌∷◌, length, Some, Ok, Err, IfOk, IfSome}
-use Rattle.line_words.specs.Words.{Word, words_from, written_part}
+use Rattle.line_text.specs.Words.{Word, words_from, written_part}
 use Rattle.sheet_rows.specs.Rows.{Row}
 use Rattle.sheet_rows.specs.Regular.{IsRegular}
-use Rattle.sheet_rows.specs.Reading.{Read as ReadRow, row_read}
-use Rattle.sheet_rows.proofs.RegularRows.{read_regular as row_regular}
+use Rattle.sheet_rows.specs.Reading.{Read as ReadRow, row_at}
+use Rattle.sheet_rows.proofs.RegularRows.{row_regular}
 use Rattle.answers.specs.Commands.{IsRegularCommand, Add, Set, Remove, Change, Undo, Redo, Mark, Restore, Ask, AskAt}
 use Rattle.script_lines.specs.declared.item.Item.{Item}
 use Rattle.script_lines.specs.declared.item.Item.TheVariants.{Line, LongLine}
@@ -24,27 +24,26 @@ row_holds : (r : ReadRow Row) → IfOk r IsRegular → IfOk (row_of_line r) IsRe
 row_holds (Ok row) h = h
 row_holds (Err fault) h = tt
 
-command_regular : (verb : Verb) (line : List ℕ) (end : ℕ) (w : Word) (ws : List Word) → IfOk (command_with verb line end w ws) IsRegularCommand
-command_regular SetVerb line end w ws =
-    mapped_holds (row_of_line (row_read line (w.place + length w.text))) (λ row. Change (Set row)) IsRegular IsRegularCommand
-    (row_holds _ (row_regular line (w.place + length w.text))) (λ row h. h)
-command_regular RemoveVerb line end w ws = mapped_holds (sole_name end ws) (λ name. Change (Remove name)) (λ x. Unit {0}) IsRegularCommand (anything _) (λ x h. h)
-command_regular UndoVerb line end w ws = mapped_holds (no_more ws) (λ done. Undo) (λ x. Unit {0}) IsRegularCommand (anything _) (λ x h. h)
-command_regular RedoVerb line end w ws = mapped_holds (no_more ws) (λ done. Redo) (λ x. Unit {0}) IsRegularCommand (anything _) (λ x h. h)
-command_regular MarkVerb line end w ws = mapped_holds (sole_name end ws) Mark (λ x. Unit {0}) IsRegularCommand (anything _) (λ x h. h)
-command_regular RestoreVerb line end w ws = mapped_holds (sole_name end ws) Restore (λ x. Unit {0}) IsRegularCommand (anything _) (λ x h. h)
-command_regular AtVerb line end w ws = mapped_holds (query_at end ws) (λ asked. AskAt asked.0 asked.1) (λ x. Unit {0}) IsRegularCommand (anything _) (λ x h. h)
-command_regular AskVerb line end w ws = mapped_holds (query_with end w ws) Ask (λ x. Unit {0}) IsRegularCommand (anything _) (λ x h. h)
-command_regular RowVerb line end w ws =
-    mapped_holds (row_of_line (row_read line 0)) (λ row. Change (Add row)) IsRegular IsRegularCommand (row_holds _ (row_regular line 0)) (λ row h. h)
+command_regular : (verb : Verb) (text : List ℕ) (w : Word) (ws : List Word) → IfOk (command_with verb text w ws) IsRegularCommand
+command_regular SetVerb text w ws =
+    mapped_holds (row_of_line (row_at text ws)) (λ row. Change (Set row)) IsRegular IsRegularCommand (row_holds _ (row_regular text ws)) (λ row h. h)
+command_regular RemoveVerb text w ws = mapped_holds (sole_name (length text) ws) (λ name. Change (Remove name)) (λ x. Unit {0}) IsRegularCommand (anything _) (λ x h. h)
+command_regular UndoVerb text w ws = mapped_holds (no_more ws) (λ done. Undo) (λ x. Unit {0}) IsRegularCommand (anything _) (λ x h. h)
+command_regular RedoVerb text w ws = mapped_holds (no_more ws) (λ done. Redo) (λ x. Unit {0}) IsRegularCommand (anything _) (λ x h. h)
+command_regular MarkVerb text w ws = mapped_holds (sole_name (length text) ws) Mark (λ x. Unit {0}) IsRegularCommand (anything _) (λ x h. h)
+command_regular RestoreVerb text w ws = mapped_holds (sole_name (length text) ws) Restore (λ x. Unit {0}) IsRegularCommand (anything _) (λ x h. h)
+command_regular AtVerb text w ws = mapped_holds (query_at (length text) ws) (λ asked. AskAt asked.0 asked.1) (λ x. Unit {0}) IsRegularCommand (anything _) (λ x h. h)
+command_regular AskVerb text w ws = mapped_holds (query_with (length text) w ws) Ask (λ x. Unit {0}) IsRegularCommand (anything _) (λ x h. h)
+command_regular RowVerb text w ws =
+    mapped_holds (row_of_line (row_at text (w ∷ ws))) (λ row. Change (Add row)) IsRegular IsRegularCommand (row_holds _ (row_regular text (w ∷ ws))) (λ row h. h)
 
-line_regular : (line : List ℕ) (end : ℕ) (ws : List Word) → IfOk (line_with line end ws) (λ read. IfSome read IsRegularCommand)
-line_regular line end [] = tt
-line_regular line end (w ∷ ws) =
-    mapped_holds (command_with (verb_of w.text) line end w ws) Some IsRegularCommand (λ read. IfSome read IsRegularCommand)
-    (command_regular (verb_of w.text) line end w ws) (λ x h. h)
+line_regular : (text : List ℕ) (ws : List Word) → IfOk (line_with text ws) (λ read. IfSome read IsRegularCommand)
+line_regular text [] = tt
+line_regular text (w ∷ ws) =
+    mapped_holds (command_with (verb_of w.text) text w ws) Some IsRegularCommand (λ read. IfSome read IsRegularCommand)
+    (command_regular (verb_of w.text) text w ws) (λ x h. h)
 
 pub read_regular : (item : Item) → IfOk (command_read item) (λ read. IfSome read IsRegularCommand)
 unfolding line_read
 read_regular LongLine = tt
-read_regular (Line line) = line_regular line (length (written_part line)) (words_from (written_part line) 0)
+read_regular (Line line) = line_regular (written_part line) (words_from (written_part line) 0)

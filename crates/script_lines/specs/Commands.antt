@@ -2,9 +2,9 @@
 -- place is counted from 1. Where the line ends too early, the place is the one after its end.
 use Rattle.std.specs.Prelude.{ℕ, ◌+◌, ◌||◌, Bool, false, if◌then◌else◌, List, [], ◌∷◌, length, Option, Some, None, Result, Ok, Err, bytes_eq, codes}
 use Rattle.formula_ast.specs.Names.{is_plain_name, is_name}
-use Rattle.line_words.specs.Words.{Word, words_from, written_part}
+use Rattle.line_text.specs.Words.{Word, words_from, written_part}
 use Rattle.sheet_rows.specs.Rows.{Row}
-use Rattle.sheet_rows.specs.Reading.{Read as ReadRow, begin_formula, row_read}
+use Rattle.sheet_rows.specs.Reading.{Read as ReadRow, begin_formula, row_at}
 use Rattle.answers.specs.Commands.{Command, Add, Set, Remove, Change, Undo, Redo, Mark, Restore, Ask, AskAt}
 use Rattle.answers.specs.declared.command.Query.{Query}
 use Rattle.answers.specs.declared.command.Query.TheVariants.{Value, Dump}
@@ -22,7 +22,7 @@ abbrev pub mapped : {A B : Type 0} → (A → B) → Read A → Read B
 mapped make (Ok x) = Ok (make x)
 mapped make (Err fault) = Err fault
 
--- ---- words after the first. `end` is the length of the line
+-- ---- words after the first. `end` is the length of the line without its comment and its last blanks
 -- no word more
 abbrev pub alone : {A : Type 0} → A → List Word → Read A
 alone x [] = Ok x
@@ -92,47 +92,48 @@ abbrev pub row_of_line : ReadRow Row → Read Row
 row_of_line (Ok row) = Ok row
 row_of_line (Err fault) = Err (RowRefused fault)
 
--- the command of a line whose first word is `w`; `end` is the line's length without its comment and last blanks
-abbrev pub command_with : Verb → List ℕ → ℕ → Word → List Word → Read Command
-command_with SetVerb line end w ws = mapped (λ row. Change (Set row)) (row_of_line (row_read line (w.place + length w.text)))
-command_with RemoveVerb line end w ws = mapped (λ name. Change (Remove name)) (sole_name end ws)
-command_with UndoVerb line end w ws = mapped (λ done. Undo) (no_more ws)
-command_with RedoVerb line end w ws = mapped (λ done. Redo) (no_more ws)
-command_with MarkVerb line end w ws = mapped Mark (sole_name end ws)
-command_with RestoreVerb line end w ws = mapped Restore (sole_name end ws)
-command_with AtVerb line end w ws = mapped (λ asked. AskAt asked.0 asked.1) (query_at end ws)
-command_with AskVerb line end w ws = mapped Ask (query_with end w ws)
-command_with RowVerb line end w ws = mapped (λ row. Change (Add row)) (row_of_line (row_read line 0))
+-- the command of a line whose first word is `w` and whose others are `ws`. `text` is the line without its comment
+-- and its last blanks
+abbrev pub command_with : Verb → List ℕ → Word → List Word → Read Command
+command_with SetVerb text w ws = mapped (λ row. Change (Set row)) (row_of_line (row_at text ws))
+command_with RemoveVerb text w ws = mapped (λ name. Change (Remove name)) (sole_name (length text) ws)
+command_with UndoVerb text w ws = mapped (λ done. Undo) (no_more ws)
+command_with RedoVerb text w ws = mapped (λ done. Redo) (no_more ws)
+command_with MarkVerb text w ws = mapped Mark (sole_name (length text) ws)
+command_with RestoreVerb text w ws = mapped Restore (sole_name (length text) ws)
+command_with AtVerb text w ws = mapped (λ asked. AskAt asked.0 asked.1) (query_at (length text) ws)
+command_with AskVerb text w ws = mapped Ask (query_with (length text) w ws)
+command_with RowVerb text w ws = mapped (λ row. Change (Add row)) (row_of_line (row_at text (w ∷ ws)))
 
 -- a line without words is no command
-abbrev pub line_with : List ℕ → ℕ → List Word → Read (Option Command)
-line_with line end [] = Ok None
-line_with line end (w ∷ ws) = mapped Some (command_with (verb_of w.text) line end w ws)
+abbrev pub line_with : List ℕ → List Word → Read (Option Command)
+line_with text [] = Ok None
+line_with text (w ∷ ws) = mapped Some (command_with (verb_of w.text) text w ws)
 
 -- the command that the line is, if any
 unfoldable pub line_read : List ℕ → Read (Option Command)
-line_read line = line_with line (length (written_part line)) (words_from (written_part line) 0)
+line_read line = line_with (written_part line) (words_from (written_part line) 0)
 
 abbrev pub command_read : Item → Read (Option Command)
 command_read LongLine = Err TooLong
 command_read (Line line) = line_read line
 
 -- ---- whether the line is to give a formula row: no other line's reading takes memory
-abbrev pub gives_formula_with : Verb → List ℕ → Word → Bool
-gives_formula_with SetVerb line w = begin_formula (words_from (written_part line) (w.place + length w.text))
-gives_formula_with RemoveVerb line w = false
-gives_formula_with UndoVerb line w = false
-gives_formula_with RedoVerb line w = false
-gives_formula_with MarkVerb line w = false
-gives_formula_with RestoreVerb line w = false
-gives_formula_with AtVerb line w = false
-gives_formula_with AskVerb line w = false
-gives_formula_with RowVerb line w = begin_formula (words_from (written_part line) 0)
+abbrev pub gives_formula_with : Verb → Word → List Word → Bool
+gives_formula_with SetVerb w ws = begin_formula ws
+gives_formula_with RemoveVerb w ws = false
+gives_formula_with UndoVerb w ws = false
+gives_formula_with RedoVerb w ws = false
+gives_formula_with MarkVerb w ws = false
+gives_formula_with RestoreVerb w ws = false
+gives_formula_with AtVerb w ws = false
+gives_formula_with AskVerb w ws = false
+gives_formula_with RowVerb w ws = begin_formula (w ∷ ws)
 
-abbrev pub line_gives_formula : List ℕ → List Word → Bool
-line_gives_formula line [] = false
-line_gives_formula line (w ∷ ws) = gives_formula_with (verb_of w.text) line w
+abbrev pub words_give_formula : List Word → Bool
+words_give_formula [] = false
+words_give_formula (w ∷ ws) = gives_formula_with (verb_of w.text) w ws
 
 abbrev pub gives_formula : Item → Bool
 gives_formula LongLine = false
-gives_formula (Line line) = line_gives_formula line (words_from (written_part line) 0)
+gives_formula (Line line) = words_give_formula (words_from (written_part line) 0)

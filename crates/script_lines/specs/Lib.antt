@@ -1,4 +1,3 @@
 pub mod Items
 pub mod Commands
-pub mod Answers
 pub mod Texts

@@ -1,7 +1,7 @@
 ghost use Rattle.std.specs.Prelude.{◌≡◌, nat_lt, length, IfOk};
 ghost use Rattle.script_lines.specs.Items.{line_limit, is_long, without_return, ended_item, last_item};
 
-use decimal18::{Bytes, OutOfMemory};
+use line_text::{Bytes, OutOfMemory};
 use std::alloc::Global;
 
 /// A line of a script.

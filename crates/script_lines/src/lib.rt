@@ -13,7 +13,6 @@ mod verb;
 mod words_after;
 mod worked;
 
-pub use decimal18::OutOfMemory;
 pub use item::Item;
 pub use laws::{commands_are_never_out_of_memory, commands_are_regular};
 pub use print::print_reply;

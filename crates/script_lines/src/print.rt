@@ -10,9 +10,10 @@ use crate::print_fault::{
     put_ask_fault, put_edit_fault, put_history_fault, put_line_fault, put_mark_fault, put_named,
 };
 use answers::{Answer, Reply};
-use decimal18::{Bytes, Dec, OutOfMemory};
+use decimal18::Dec;
 use fixed_interval::{ArithFault, Span};
 use formula_ast::Name;
+use line_text::{Bytes, OutOfMemory};
 use sheet_rows::{Row, print_row};
 use std::alloc::Global;
 use std::rc::Rc;

@@ -4,9 +4,9 @@ ghost use Rattle.std.specs.Prelude.{◌≡◌, ◌++◌, OnOk};
 ghost use Rattle.script_lines.specs.Texts.{named, placed, text_of_row_fault, text_of_line_fault, text_of_edit_fault, text_of_history_fault, text_of_mark_fault, text_of_ask_fault};
 
 use answers::{AskFault, HistoryFault, LineFault, MarkFault};
-use decimal18::{Bytes, OutOfMemory};
 use formula_ast::Name;
 use itoa::Buffer;
+use line_text::{Bytes, OutOfMemory};
 use sheet_rows::{EditFault, RowFault};
 
 /// Puts a line of some words and a name at the end.

@@ -1,86 +1,98 @@
 //! A line is read into the command that it is.
 
-ghost use Rattle.std.specs.Prelude.{◌≡◌, ◌+◌, ◌≤◌, true, length, IfOk, IfSome, Err};
-ghost use Rattle.line_words.specs.Words.{words_from, written_part};
+ghost use Rattle.std.specs.Prelude.{◌≡◌, ◌+◌, ◌<◌, ◌^◌, ◌∷◌, true, length, option_map, IfOk, IfSome, Err};
+ghost use Rattle.line_text.specs.Memory.{GivesBy};
+ghost use Rattle.line_text.specs.Words.{word_of, words_left, words_from, written_part};
 ghost use Rattle.sheet_rows.specs.Rows.{row_of};
 ghost use Rattle.sheet_rows.specs.Regular.{IsRegular};
-ghost use Rattle.sheet_rows.specs.Reading.{begin_formula, row_read};
+ghost use Rattle.sheet_rows.specs.Reading.{begin_formula, row_at};
 ghost use Rattle.answers.specs.Commands.{command_of, IsRegularCommand};
-ghost use Rattle.script_lines.specs.Commands.{row_of_line, command_with, line_read, command_read, gives_formula_with, line_gives_formula, gives_formula};
-ghost use Rattle.script_lines.specs.Answers.{GivesRow, GivesCommand, GivesLine};
+ghost use Rattle.script_lines.specs.Commands.{row_of_line, command_with, line_read, command_read, gives_formula_with, words_give_formula, gives_formula};
 
 use crate::item::Item;
 use crate::verb::{Verb, verb_of};
-use crate::words_after::{alone, read_name, read_query_at, read_query_with};
+use crate::words_after::{alone, read_begun_query, read_name, read_query_at};
 use answers::{Command, Edit, LineFault};
-use line_words::{next_word, written_part};
-use sheet_rows::{Row, RowFault, read_row};
+use line_text::{Word, Words, written_part};
+use sheet_rows::{Row, RowFault, read_begun_row, read_row_words};
 use std::alloc::Global;
 
-/// The row that the line gives from the place `from` on.
-fn read_row_at(alloc: Global, line: &[u8], from: usize) -> Result<Row, LineFault>
-    ensures exact { GivesRow result (row_of_line (row_read line.now from)) }
-    ensures memory { result ≡ Err LineFault.OutOfMemory → begin_formula (words_from (written_part line.now) from) ≡ true }
+/// The row that these words of a line give.
+fn set_row(alloc: Global, words: Words<'_>) -> Result<Row, LineFault>
+    ensures exact { GivesBy row_of LineFault.OutOfMemory result (row_of_line (row_at words.entry.line (words_left words.entry))) }
+    ensures memory { result ≡ Err LineFault.OutOfMemory → begin_formula (words_left words.entry) ≡ true }
     ensures regular { IfOk result (λ row. IsRegular (row_of row)) }
 {
-    match read_row(alloc, line, from) {
+    match read_row_words(alloc, words) {
         Ok(row) => Ok(row),
         Err(RowFault::OutOfMemory) => Err(LineFault::OutOfMemory),
         Err(fault) => Err(LineFault::Row(fault)),
     }
 }
 
-/// The command of a line whose first word has this verb. `text` is the line without its comment and its
-/// last blanks, and `word` its first word, at this place.
+/// The row that the word `first` begins, where `words` are those after it.
+fn added_row(alloc: Global, first: &Word<'_>, words: Words<'_>) -> Result<Row, LineFault>
+    requires place { words.at ≡ first.now.place + length first.now.text.now }
+    requires fits { words.at < 2 ^ 63 }
+    ensures exact { GivesBy row_of LineFault.OutOfMemory result (row_of_line (row_at words.entry.line (word_of first.now ∷ words_left words.entry))) }
+    ensures memory { result ≡ Err LineFault.OutOfMemory → begin_formula (word_of first.now ∷ words_left words.entry) ≡ true }
+    ensures regular { IfOk result (λ row. IsRegular (row_of row)) }
+{
+    match read_begun_row(alloc, first, words) {
+        Ok(row) => Ok(row),
+        Err(RowFault::OutOfMemory) => Err(LineFault::OutOfMemory),
+        Err(fault) => Err(LineFault::Row(fault)),
+    }
+}
+
+/// The command of a line whose first word is `first`, of this verb, and whose others are `words`. The line has no
+/// comment and no last blanks.
 fn read_with(
     alloc: Global,
     verb: Verb,
-    line: &[u8],
-    text: &[u8],
-    place: usize,
-    word: &[u8],
+    first: &Word<'_>,
+    words: Words<'_>,
 ) -> Result<Command, LineFault>
-    requires { place + length word.now ≤ length text.now }
-    ensures exact { GivesCommand result (command_with verb line.now (length text.now)
-        (record { place = place; text = word.now }) (words_from text.now (place + length word.now))) }
-    ensures memory { result ≡ Err LineFault.OutOfMemory
-        → gives_formula_with verb line.now (record { place = place; text = word.now }) ≡ true }
+    requires place { words.at ≡ first.now.place + length first.now.text.now }
+    requires fits { words.at < 2 ^ 63 }
+    ensures exact { GivesBy command_of LineFault.OutOfMemory result
+        (command_with verb words.entry.line (word_of first.now) (words_left words.entry)) }
+    ensures memory { result ≡ Err LineFault.OutOfMemory → gives_formula_with verb (word_of first.now) (words_left words.entry) ≡ true }
     ensures regular { IfOk result (λ command. IsRegularCommand (command_of command)) }
 {
-    let after = place + word.len();
     match verb {
-        Verb::Set => Ok(Command::Change(Edit::Set(read_row_at(alloc, line, after)?))),
-        Verb::Remove => Ok(Command::Change(Edit::Remove(read_name(text, after)?))),
+        Verb::Set => Ok(Command::Change(Edit::Set(set_row(alloc, words)?))),
+        Verb::Remove => Ok(Command::Change(Edit::Remove(read_name(words)?))),
         Verb::Undo => {
-            alone((), text, after)?;
+            alone((), words)?;
             Ok(Command::Undo)
         }
         Verb::Redo => {
-            alone((), text, after)?;
+            alone((), words)?;
             Ok(Command::Redo)
         }
-        Verb::Mark => Ok(Command::Mark(read_name(text, after)?)),
-        Verb::Restore => Ok(Command::Restore(read_name(text, after)?)),
+        Verb::Mark => Ok(Command::Mark(read_name(words)?)),
+        Verb::Restore => Ok(Command::Restore(read_name(words)?)),
         Verb::At => {
-            let (name, query) = read_query_at(text, after)?;
+            let (name, query) = read_query_at(words)?;
             Ok(Command::AskAt(name, query))
         }
-        Verb::Ask => Ok(Command::Ask(read_query_with(text, place, word)?)),
-        Verb::Row => Ok(Command::Change(Edit::Add(read_row_at(alloc, line, 0)?))),
+        Verb::Ask => Ok(Command::Ask(read_begun_query(first, words)?)),
+        Verb::Row => Ok(Command::Change(Edit::Add(added_row(alloc, first, words)?))),
     }
 }
 
 /// The command that the line is, and `None` where it has no words.
 fn read_line(alloc: Global, line: &[u8]) -> Result<Option<Command>, LineFault>
-    ensures exact { GivesLine result (line_read line.now) }
-    ensures memory { result ≡ Err LineFault.OutOfMemory → line_gives_formula line.now (words_from (written_part line.now) 0) ≡ true }
+    ensures exact { GivesBy (option_map command_of) LineFault.OutOfMemory result (line_read line.now) }
+    ensures memory { result ≡ Err LineFault.OutOfMemory → words_give_formula (words_from (written_part line.now) 0) ≡ true }
     ensures regular { IfOk result (λ read. IfSome read (λ command. IsRegularCommand (command_of command))) }
 {
-    let text = written_part(line);
-    let Some((place, word)) = next_word(text, 0) else {
+    let mut words = Words::from(written_part(line), 0);
+    let Some(first) = words.next() else {
         return Ok(None);
     };
-    let command = read_with(alloc, verb_of(word), line, text, place, word)?;
+    let command = read_with(alloc, verb_of(first.text), &first, words)?;
     Ok(Some(command))
 }
 
@@ -92,7 +104,7 @@ fn read_line(alloc: Global, line: &[u8]) -> Result<Option<Command>, LineFault>
 /// place in the line, or the rule alone where the row as a whole breaks it; out of memory for lines that are to
 /// give a formula row alone.
 pub fn read_command(alloc: Global, item: &Item) -> Result<Option<Command>, LineFault>
-    ensures exact { GivesLine result (command_read item.now) }
+    ensures exact { GivesBy (option_map command_of) LineFault.OutOfMemory result (command_read item.now) }
     ensures memory { result ≡ Err LineFault.OutOfMemory → gives_formula item.now ≡ true }
     ensures regular { IfOk result (λ read. IfSome read (λ command. IsRegularCommand (command_of command))) }
 {

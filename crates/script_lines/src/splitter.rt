@@ -4,7 +4,7 @@ ghost use Rattle.std.specs.Prelude.{◌≡◌, ◌+◌, ◌<◌, [], ◌∷◌, 
 ghost use Rattle.script_lines.specs.Items.{parts_of, items_of, whole_items_of};
 
 use crate::item::{Item, ended_item, last_item};
-use decimal18::OutOfMemory;
+use line_text::OutOfMemory;
 use std::alloc::Global;
 use std::marker::Model;
 

@@ -6,9 +6,9 @@ ghost use Rattle.script_lines.specs.Texts.{is_memory_fault};
 
 use crate::{Item, Splitter, print_reply, read_command};
 use answers::{Answer, AskFault, Command, Edit, HistoryFault, LineFault, MarkFault, Query, Reply};
-use decimal18::Bytes;
 use fixed_interval::ArithFault;
 use formula_ast::Name;
+use line_text::Bytes;
 use sheet_rows::{EditFault, RowFault, RowList, read_row};
 use std::alloc::Global;
 use std::rc::Rc;

@@ -1,94 +1,88 @@
-//! The words after the first of a line, which has no comment and no last blanks. Each part is read from a
-//! place of the line on, and nothing may stand after it.
+//! The words after the first of a line, which has no comment and no last blanks. Each part takes its words, and
+//! nothing may stand after it.
 
-ghost use Rattle.std.specs.Prelude.{◌≡◌, ◌+◌, ◌≤◌, length};
-ghost use Rattle.line_words.specs.Words.{words_from};
+ghost use Rattle.std.specs.Prelude.{◌≡◌, ◌<◌, ◌^◌, length};
+ghost use Rattle.line_text.specs.Words.{word_of, words_left};
 ghost use Rattle.script_lines.specs.Commands.{alone, sole_name, value_query, query_with, query_of, query_at};
 
 use crate::verb::{DUMP, VALUE, is_other_query};
 use answers::{LineFault, Query};
 use formula_ast::Name;
-use line_words::next_word;
+use line_text::{Word, Words};
 
 /// The item, where no word stands after it.
-pub(crate) fn alone<T: Copy>(item: T, line: &[u8], at: usize) -> Result<T, LineFault>
-    requires { at ≤ length line.now }
-    ensures { result ≡ alone item (words_from line.now at) }
+pub(crate) fn alone<T: Copy>(item: T, mut words: Words<'_>) -> Result<T, LineFault>
+    ensures { result ≡ alone item (words_left words.entry) }
 {
-    match next_word(line, at) {
-        Some((place, _)) => Err(LineFault::Syntax(place + 1)),
+    match words.next() {
+        Some(word) => Err(LineFault::Syntax(word.place + 1)),
         None => Ok(item),
     }
 }
 
 /// A plain name.
-pub(crate) fn read_name(line: &[u8], at: usize) -> Result<Name, LineFault>
-    requires { at ≤ length line.now }
-    ensures { result ≡ sole_name (length line.now) (words_from line.now at) }
+pub(crate) fn read_name(mut words: Words<'_>) -> Result<Name, LineFault>
+    ensures { result ≡ sole_name (length words.entry.line) (words_left words.entry) }
 {
-    let Some((place, word)) = next_word(line, at) else {
-        return Err(LineFault::Syntax(line.len() + 1));
+    let Some(word) = words.next() else {
+        return Err(LineFault::Syntax(words.end() + 1));
     };
-    let Some(name) = Name::plain(word) else {
-        return Err(LineFault::Syntax(place + 1));
+    let Some(name) = Name::plain(word.text) else {
+        return Err(LineFault::Syntax(word.place + 1));
     };
-    alone(name, line, place + word.len())
+    alone(name, words)
 }
 
 /// The name whose value is asked for.
-fn read_value(line: &[u8], at: usize) -> Result<Query, LineFault>
-    requires { at ≤ length line.now }
-    ensures { result ≡ value_query (length line.now) (words_from line.now at) }
+fn read_value(mut words: Words<'_>) -> Result<Query, LineFault>
+    ensures { result ≡ value_query (length words.entry.line) (words_left words.entry) }
 {
-    let Some((place, word)) = next_word(line, at) else {
-        return Err(LineFault::Syntax(line.len() + 1));
+    let Some(word) = words.next() else {
+        return Err(LineFault::Syntax(words.end() + 1));
     };
-    let Some(name) = Name::new(word) else {
-        return Err(LineFault::Syntax(place + 1));
+    let Some(name) = Name::new(word.text) else {
+        return Err(LineFault::Syntax(word.place + 1));
     };
-    alone(Query::Value(name), line, place + word.len())
+    alone(Query::Value(name), words)
 }
 
-/// The query that the word at this place begins.
-pub(crate) fn read_query_with(line: &[u8], place: usize, word: &[u8]) -> Result<Query, LineFault>
-    requires { place + length word.now ≤ length line.now }
-    ensures { result ≡ query_with (length line.now) (record { place = place; text = word.now }) (words_from line.now (place + length word.now)) }
+/// The query that the word `first` begins.
+pub(crate) fn read_begun_query(first: &Word<'_>, words: Words<'_>) -> Result<Query, LineFault>
+    requires { first.now.place < 2 ^ 63 }
+    ensures { result ≡ query_with (length words.entry.line) (word_of first.now) (words_left words.entry) }
 {
-    let after = place + word.len();
-    if word == VALUE {
-        return read_value(line, after);
+    if first.text == VALUE {
+        return read_value(words);
     }
-    if word == DUMP {
-        return alone(Query::Dump, line, after);
+    if first.text == DUMP {
+        return alone(Query::Dump, words);
     }
-    if is_other_query(word) {
+    if is_other_query(first.text) {
         return Err(LineFault::NotBuilt);
     }
-    Err(LineFault::Syntax(place + 1))
+    Err(LineFault::Syntax(first.place + 1))
 }
 
 /// A query.
-fn read_query(line: &[u8], at: usize) -> Result<Query, LineFault>
-    requires { at ≤ length line.now }
-    ensures { result ≡ query_of (length line.now) (words_from line.now at) }
+fn read_query(mut words: Words<'_>) -> Result<Query, LineFault>
+    ensures { result ≡ query_of (length words.entry.line) (words_left words.entry) }
 {
-    let Some((place, word)) = next_word(line, at) else {
-        return Err(LineFault::Syntax(line.len() + 1));
+    let Some(first) = words.next() else {
+        return Err(LineFault::Syntax(words.end() + 1));
     };
-    read_query_with(line, place, word)
+    read_begun_query(&first, words)
 }
 
 /// The name of a mark, and a query.
-pub(crate) fn read_query_at(line: &[u8], at: usize) -> Result<(Name, Query), LineFault>
-    requires { at ≤ length line.now }
-    ensures { result ≡ query_at (length line.now) (words_from line.now at) }
+pub(crate) fn read_query_at(mut words: Words<'_>) -> Result<(Name, Query), LineFault>
+    ensures { result ≡ query_at (length words.entry.line) (words_left words.entry) }
 {
-    let Some((place, word)) = next_word(line, at) else {
-        return Err(LineFault::Syntax(line.len() + 1));
+    let Some(word) = words.next() else {
+        return Err(LineFault::Syntax(words.end() + 1));
     };
-    let Some(name) = Name::plain(word) else {
-        return Err(LineFault::Syntax(place + 1));
+    let Some(name) = Name::plain(word.text) else {
+        return Err(LineFault::Syntax(word.place + 1));
     };
-    let query = read_query(line, place + word.len())?;
+    let query = read_query(words)?;
     Ok((name, query))
 }

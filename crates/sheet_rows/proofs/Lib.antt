@@ -1,7 +1,5 @@
-pub mod Placing
 pub mod LineEnds
 pub mod RegularRows
-pub mod MovedPlaces
 pub mod PlainBytes
 pub mod SolidTexts
 pub mod PrintedRows

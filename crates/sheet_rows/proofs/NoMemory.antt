@@ -11,7 +11,7 @@ use Rattle.formula_ast.specs.Reading.{reading_of}
 use Rattle.formula_ast.specs.declared.fault.FormulaFault.{FormulaFault}
 use Rattle.formula_ast.specs.declared.fault.FormulaFault.TheVariants.{Syntax as FormulaSyntax, UnknownFunction as FormulaFunction, Number as FormulaNumber, BadPower as FormulaPower, TooDeep as FormulaDeep, TooMany as FormulaMany, OutOfMemory as FormulaMemory}
 use Rattle.formula_ast.proofs.NoMemory.{never_memory as formula_never}
-use Rattle.line_words.specs.Words.{Word, written_part, words_from}
+use Rattle.line_text.specs.Words.{Word, written_part, words_from}
 use Rattle.type_b.specs.Shapes.{checked}
 use Rattle.type_b.specs.declared.shape.ShapeFault.{ShapeFault}
 use Rattle.sheet_rows.specs.Reading.{Read, then_read, plain_word, number_in, number_word, is_other_shape, is_degrees_word, is_other_kind, other_word, std_shape, shape_word, ended, shape_checked, given_of, past_blanks, leading_name, name_at, begins_equals, equals_at, formula_fault, formula_in, formula_at, let_of, row_at, row_read}
@@ -122,6 +122,9 @@ row_failed line (w ∷ ws) =
     (cond_failed (bytes_eq w.text (codes "let")) (let_of line (w.place + length w.text)) (Err (other_word (is_other_kind w.text) w.place))
     (let_failed line (w.place + length w.text)) (other_failed (is_other_kind w.text) w.place))
 
+pub row_never : (line : List ℕ) (ws : List Word) → row_at line ws ≢ Err OutOfMemory
+row_never line ws h = subst IfFailed h (row_failed line ws)
+
 pub never_memory : (line : List ℕ) (from : ℕ) → row_read line from ≢ Err OutOfMemory
 unfolding row_read
-never_memory line from h = subst IfFailed h (row_failed (written_part line) (words_from (written_part line) from))
+never_memory line from = row_never (written_part line) (words_from (written_part line) from)

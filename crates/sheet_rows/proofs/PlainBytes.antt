@@ -1,4 +1,5 @@
 -- The bytes of names and numbers: none is a blank, `#` or `=`.
+use Rattle.std.proofs.lemmas.Bool.{and_parts, and_from}
 use Rattle.std.proofs.Common.{◌≡◌, ℕ, zero, suc, ◌+◌, ◌/◌, ◌%◌, ◌^◌, ◌<◌, ◌&&◌, Bool, true, nat_le, List, [], ◌∷◌, ◌++◌, length, refl, ◌∙◌, arith, length-append}
 use Rattle.std.specs.Prelude.{ℤ, pos, negsuc, unsigned_abs, decimal}
 use Rattle.std.specs.List.{list_all}
@@ -9,11 +10,11 @@ use Rattle.std.proofs.lemmas.Fmt.{digits_decimal, decimal_nonempty}
 use Rattle.std.proofs.lemmas.List.Folds.{list_all-append}
 use Rattle.decimal18.specs.Bound.{Bound, IsBound}
 use Rattle.decimal18.specs.Text.{last_digits, sign_of, after_point, text_of}
-use Rattle.decimal18.proofs.LiteralDigits.{numerals, cut_true, both_true}
+use Rattle.decimal18.proofs.LiteralDigits.{numerals}
 use Rattle.formula_ast.specs.Names.{begins_name, goes_on_name, is_plain_name}
 use Rattle.formula_ast.specs.Tokens.{goes_on_run}
 use Rattle.formula_ast.specs.Printing.{exponent_text}
-use Rattle.line_words.specs.Words.{is_in_word, is_no_hash}
+use Rattle.line_text.specs.Words.{is_in_word, is_no_hash}
 use Rattle.sheet_rows.specs.Reading.{is_in_name}
 
 abbrev pub is_plain : ℕ → Bool
@@ -25,24 +26,24 @@ ArePlain text = list_all is_plain text ≡ true
 pub weaker : (p q : ℕ → Bool) → ((byte : ℕ) → p byte ≡ true → q byte ≡ true) → (text : List ℕ) → list_all p text ≡ true → list_all q text ≡ true
 weaker p q h [] all = refl
 weaker p q h (byte ∷ bytes) all =
-    let parts = cut_true (p byte) (list_all p bytes) all in
-    both_true (q byte) (list_all q bytes) (h byte parts.0) (weaker p q h bytes parts.1)
+    let parts = and_parts (p byte) (list_all p bytes) all in
+    and_from (q byte) (list_all q bytes) (h byte parts.0) (weaker p q h bytes parts.1)
 
 pub all_in_word : (text : List ℕ) → ArePlain text → list_all is_in_word text ≡ true
-all_in_word text all = weaker is_plain is_in_word (λ byte h. (cut_true (is_in_word byte) (is_no_hash byte && is_in_name byte) h).0) text all
+all_in_word text all = weaker is_plain is_in_word (λ byte h. (and_parts (is_in_word byte) (is_no_hash byte && is_in_name byte) h).0) text all
 
 pub all_no_hash : (text : List ℕ) → ArePlain text → list_all is_no_hash text ≡ true
 all_no_hash text all =
     weaker is_plain is_no_hash
-    (λ byte h. (cut_true (is_no_hash byte) (is_in_name byte) (cut_true (is_in_word byte) (is_no_hash byte && is_in_name byte) h).1).0) text all
+    (λ byte h. (and_parts (is_no_hash byte) (is_in_name byte) (and_parts (is_in_word byte) (is_no_hash byte && is_in_name byte) h).1).0) text all
 
 pub all_in_name : (text : List ℕ) → ArePlain text → list_all is_in_name text ≡ true
 all_in_name text all =
     weaker is_plain is_in_name
-    (λ byte h. (cut_true (is_no_hash byte) (is_in_name byte) (cut_true (is_in_word byte) (is_no_hash byte && is_in_name byte) h).1).1) text all
+    (λ byte h. (and_parts (is_no_hash byte) (is_in_name byte) (and_parts (is_in_word byte) (is_no_hash byte && is_in_name byte) h).1).1) text all
 
 pub plain_append : (xs ys : List ℕ) → ArePlain xs → ArePlain ys → ArePlain (xs ++ ys)
-plain_append xs ys h k = list_all-append is_plain xs ys ∙ both_true _ _ h k
+plain_append xs ys h k = list_all-append is_plain xs ys ∙ and_from _ _ h k
 
 -- ---- names
 run_plain : (byte : ℕ) → goes_on_run byte ≡ true → is_plain byte ≡ true
@@ -60,9 +61,9 @@ runs_plain text all = weaker goes_on_run is_plain run_plain text all
 pub names_plain : (text : List ℕ) → is_plain_name text ≡ true → ArePlain text
 names_plain [] h = refl
 names_plain (byte ∷ bytes) h =
-    let parts = cut_true (begins_name byte) (list_all goes_on_name bytes && nat_le (length bytes) 23) h in
-    let others = cut_true (list_all goes_on_name bytes) (nat_le (length bytes) 23) parts.1 in
-    both_true (is_plain byte) (list_all is_plain bytes) (first_plain byte parts.0) (weaker goes_on_name is_plain name_plain bytes others.0)
+    let parts = and_parts (begins_name byte) (list_all goes_on_name bytes && nat_le (length bytes) 23) h in
+    let others = and_parts (list_all goes_on_name bytes) (nat_le (length bytes) 23) parts.1 in
+    and_from (is_plain byte) (list_all is_plain bytes) (first_plain byte parts.0) (weaker goes_on_name is_plain name_plain bytes others.0)
 
 pub name_some : (text : List ℕ) → is_plain_name text ≡ true → 0 < length text
 name_some [] h = absurd (cc)
@@ -76,7 +77,7 @@ last_plain : (p n : ℕ) → ArePlain (last_digits p n)
 last_plain zero n = refl
 last_plain (suc p) n =
     plain_append (last_digits p (n / 10)) ((48 + n % 10) ∷ []) (last_plain p (n / 10))
-    (both_true (is_plain (48 + n % 10)) true (digit_plain (48 + n % 10) (digit (n % 10) (omega arith))) refl) where
+    (and_from (is_plain (48 + n % 10)) true (digit_plain (48 + n % 10) (digit (n % 10) (omega arith))) refl) where
       digit : (d : ℕ) → d < 10 → is_ascii_digit (48 + d) ≡ true
       digit d below = grind (arith, nat_tests)
 

@@ -1,5 +1,6 @@
 -- The printed text of a row is read as the row again.
-use Rattle.std.proofs.Common.{append_assoc, ◌≡◌, ℕ, ◌+◌, ◌<◌, Bool, true, false, List, [], ◌∷◌, ◌++◌, length, take, drop, refl, sym, ◌∙◌, ap, arith, Ok}
+use Rattle.std.proofs.lemmas.Bool.{and_parts}
+use Rattle.std.proofs.Common.{append_assoc, ◌≡◌, ℕ, ◌+◌, ◌<◌, Bool, true, false, List, [], ◌∷◌, ◌++◌, length, take, drop, refl, sym, ◌∙◌, ap, arith, drop-drop, Ok}
 use Rattle.std.specs.Prelude.{codes, not}
 use Rattle.std.specs.List.{list_all, prefix_len}
 use mathlib.Core.List.{append-nil}
@@ -7,18 +8,15 @@ use Rattle.std.proofs.Math.Seq.{take-append_seam, drop-append_seam}
 use Rattle.decimal18.specs.Bound.{Bound, IsDecimal}
 use Rattle.decimal18.specs.Text.{text_of}
 use Rattle.decimal18.specs.Literal.{parsed}
-use Rattle.decimal18.proofs.LiteralDigits.{cut_true}
 use Rattle.decimal18.proofs.TextAgain.{read_again as bound_again}
 use Rattle.formula_ast.specs.Names.{is_plain_name}
-use Rattle.formula_ast.specs.Tokens.{is_blank}
-use Rattle.formula_ast.specs.FirstTokens.{IsTight}
 use Rattle.formula_ast.specs.Trees.{Tree}
 use Rattle.formula_ast.specs.Reading.{reading_of}
 use Rattle.formula_ast.specs.Printing.{print}
 use Rattle.formula_ast.proofs.Again.{read_regular}
-use Rattle.formula_ast.proofs.PrintedNumbers.{run_whole}
-use Rattle.line_words.specs.Words.{Word, is_in_word, words, written_part}
-use Rattle.line_words.proofs.WordSteps.{first_words, drop_twice}
+use Rattle.line_text.specs.Blanks.{is_blank}
+use Rattle.line_text.specs.Words.{Word, is_in_word, words, written_part}
+use Rattle.line_text.proofs.WrittenTexts.{run_whole, IsSolid, solid_written, solid_after, one_word, last_word, no_blanks}
 use Rattle.type_b.specs.Shapes.{HasDecimals, checked}
 use Rattle.type_b.specs.declared.shape.Shape.{Shape}
 use Rattle.type_b.specs.declared.shape.Shape.TheVariants.{Exact, Std}
@@ -27,37 +25,9 @@ use Rattle.sheet_rows.specs.Rows.{Row, Given, Formula}
 use Rattle.sheet_rows.specs.Reading.{shape_word, given_of, past_blanks, leading_name, is_in_name, begins_equals, let_of, row_at, row_from, row_read}
 use Rattle.sheet_rows.specs.Regular.{IsRegular}
 use Rattle.sheet_rows.specs.Printing.{shape_text, printed}
-use Rattle.sheet_rows.proofs.MovedPlaces.{read_after_blank}
+use Rattle.formula_ast.proofs.MovedPlaces.{read_after_blank}
 use Rattle.sheet_rows.proofs.PlainBytes.{ArePlain, all_in_word, all_no_hash, all_in_name, names_plain, name_some, text_plain, text_some}
-use Rattle.sheet_rows.proofs.SolidTexts.{IsSolid, solid_written, solid_after, solid_word, print_solid}
-
--- ---- the word at the start
-no_blank : (t : Bool) → not t ≡ true → t ≡ false
-no_blank false h = refl
-no_blank true h = absurd (cc)
-
-tight : (w rest : List ℕ) → list_all is_in_word w ≡ true → 0 < length w → IsTight (w ++ rest)
-tight [] rest all some = absurd (omega arith)
-tight (byte ∷ bytes) rest all some =
-    no_blank (is_blank byte) (cut_true (is_in_word byte) (list_all is_in_word bytes) all).0
-
-longer : (w rest : List ℕ) → 0 < length w → 0 < length (w ++ rest)
-longer [] rest some = absurd (omega arith)
-longer (byte ∷ bytes) rest some = omega arith
-
--- a word with a blank or nothing after it
-one_word : (w rest : List ℕ) (at : ℕ) → list_all is_in_word w ≡ true → 0 < length w → prefix_len is_in_word rest ≡ 0 →
-    words (w ++ rest) 0 at ≡ record { place = at; text = w } ∷ words rest 0 (at + length w)
-one_word w rest at all some none =
-    first_words (w ++ rest) at (tight w rest all some) (longer w rest some)
-    ∙ ap (λ n. record { place = at; text = take n (w ++ rest) } ∷ words (drop n (w ++ rest)) 0 (at + n)) (run_whole is_in_word w rest all none)
-    ∙ ap (λ t. record { place = at; text = t } ∷ words (drop (length w) (w ++ rest)) 0 (at + length w)) (take-append_seam w rest)
-    ∙ ap (λ r. record { place = at; text = w } ∷ words r 0 (at + length w)) (drop-append_seam w rest)
-
-last_word : (w : List ℕ) (at : ℕ) → list_all is_in_word w ≡ true → 0 < length w →
-    words w 0 at ≡ record { place = at; text = w } ∷ []
-last_word w at all some =
-    ap (λ t. words t 0 at) (sym (append-nil w)) ∙ one_word w [] at all some refl
+use Rattle.sheet_rows.proofs.SolidTexts.{plain_solid, print_solid}
 
 -- ---- inputs
 shape_again : (s : Shape) (end at : ℕ) → HasDecimals s → shape_word end (words (shape_text s) 0 at) ≡ Ok (record { item = s; rest = [] })
@@ -115,11 +85,6 @@ let_again : (line name : List ℕ) (f : Tree) (at p q : ℕ) → past_blanks lin
     reading_of (drop (q + 1) line) ≡ Ok f → let_of line at ≡ Ok (Formula name f)
 let_again line name f at p q start word plain gap equals read = rw (start, word, plain, gap, equals, read) refl
 
-no_blanks : (w rest : List ℕ) → list_all is_in_word w ≡ true → 0 < length w → prefix_len is_blank (w ++ rest) ≡ 0
-no_blanks [] rest all some = absurd (omega arith)
-no_blanks (byte ∷ bytes) rest all some =
-    rw (no_blank (is_blank byte) (cut_true (is_in_word byte) (list_all is_in_word bytes) all).0) refl
-
 name_again : (name rest : List ℕ) → list_all is_in_name name ≡ true → prefix_len is_in_name rest ≡ 0 → leading_name (name ++ rest) ≡ name
 name_again name rest all none =
     ap (λ n. take n (name ++ rest)) (run_whole is_in_name name rest all none) ∙ take-append_seam name rest
@@ -128,8 +93,8 @@ name_again name rest all none =
 after_name : (name rest : List ℕ) (n : ℕ) → drop (4 + length name + n) (codes "let " ++ (name ++ rest)) ≡ drop n rest
 after_name name rest n =
     let line : List ℕ = codes "let " ++ (name ++ rest) in
-    sym (drop_twice line (4 + length name) n)
-    ∙ ap (λ t. drop n t) (sym (drop_twice line 4 (length name)) ∙ drop-append_seam name rest)
+    sym (drop-drop n (4 + length name) line)
+    ∙ ap (λ t. drop n t) (sym (drop-drop (length name) 4 line) ∙ drop-append_seam name rest)
 
 formula_row : (name : List ℕ) (f : Tree) → is_plain_name name ≡ true → reading_of (print f) ≡ Ok f →
     row_from (let_line name (print f)) 0 ≡ Ok (Formula name f)
@@ -159,7 +124,7 @@ given_solid name e s plain decimal stated =
     (solid_after (codes " ") (shape_text s) refl (shape_solid s stated))))) where
       shape_solid : (s : Shape) → HasDecimals s → IsSolid (shape_text s)
       shape_solid Exact h = record { no_hash = refl; ends = refl; some = omega arith }
-      shape_solid (Std u) h = solid_after (codes "std ") (text_of u) refl (solid_word (text_of u) (text_plain u h.bound) (text_some u h.bound))
+      shape_solid (Std u) h = solid_after (codes "std ") (text_of u) refl (plain_solid (text_of u) (text_plain u h.bound) (text_some u h.bound))
 
 formula_solid : (name : List ℕ) (f : Tree) → is_plain_name name ≡ true → IsSolid (print f) → IsSolid (let_line name (print f))
 formula_solid name f plain h =

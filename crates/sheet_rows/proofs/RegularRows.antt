@@ -7,13 +7,14 @@ use Rattle.decimal18.specs.Literal.{Literal, literal_of, exact_of, is_bound, as_
 use Rattle.decimal18.specs.declared.literal.NumFault.{NumFault}
 use Rattle.decimal18.specs.declared.literal.NumFault.TheVariants.{NotNumber as NoLiteral, NumberRange as NoBound}
 use Rattle.decimal18.proofs.Canonical.{IsReduced-canonical}
+use Rattle.decimal18.proofs.LiteralRead.{ok_of}
 use Rattle.formula_ast.specs.Names.{is_plain_name}
 use Rattle.formula_ast.specs.Trees.{Tree}
 use Rattle.formula_ast.specs.Printing.{print}
 use Rattle.formula_ast.specs.Reading.{reading_of}
 use Rattle.formula_ast.specs.declared.fault.FormulaFault.{FormulaFault}
 use Rattle.formula_ast.proofs.Again.{read_again}
-use Rattle.line_words.specs.Words.{Word, written_part, words_from}
+use Rattle.line_text.specs.Words.{Word, written_part, words_from}
 use Rattle.type_b.specs.Shapes.{HasDecimals, checked}
 use Rattle.type_b.specs.declared.shape.Shape.TheVariants.{Exact}
 use Rattle.type_b.specs.declared.shape.ShapeFault.{ShapeFault}
@@ -29,16 +30,12 @@ bound_decimal c true e least b h =
     let same : c ≡ b = cc in
     subst IsDecimal same (record { bound = record { digits = grind (arith, nat_tests); most = grind (arith, nat_tests) }; canonical = least })
 
-range_decimal : (o : Option Bound) (b : Bound) → in_range o ≡ Ok b → o ≡ Some b
-range_decimal None b h = absurd (cc)
-range_decimal (Some c) b h = let same : c ≡ b = cc in ap Some same
-
 literal_decimal : (o : Option Literal) (b : Bound) → read o ≡ Ok b → IsDecimal b
 literal_decimal None b h = absurd (cc)
 literal_decimal (Some l) b h =
     let exact : Bound = exact_of l in
     let c : Bound = canonical exact.coefficient exact.places in
-    bound_decimal c (is_bound c) refl (IsReduced-canonical exact.coefficient exact.places).canonical b (range_decimal (as_bound exact) b h)
+    bound_decimal c (is_bound c) refl (IsReduced-canonical exact.coefficient exact.places).canonical b (ok_of (as_bound exact) b h)
 
 parsed_decimal : (text : List ℕ) (b : Bound) → parsed text ≡ Ok b → IsDecimal b
 unfolding parsed
@@ -114,16 +111,16 @@ let_ok line at =
     (formula_ok start (reading_of (drop start line)) (λ f h. read_again (drop start line) f h)) (λ f has.
     (plain, has))))
 
-words_ok : (line : List ℕ) (ws : List Word) → IfOk (row_at line ws) IsRegular
-words_ok line [] = tt
-words_ok line (w ∷ ws) =
+pub row_regular : (line : List ℕ) (ws : List Word) → IfOk (row_at line ws) IsRegular
+row_regular line [] = tt
+row_regular line (w ∷ ws) =
     cond_ok IsRegular (bytes_eq w.text (codes "given")) (given_of (length line) ws) _ (λ e. given_ok (length line) ws)
     (cond_ok IsRegular (bytes_eq w.text (codes "let")) (let_of line (w.place + length w.text)) (Err (other_word (is_other_kind w.text) w.place))
     (λ e. let_ok line (w.place + length w.text)) tt)
 
 pub read_regular : (line : List ℕ) (from : ℕ) → IfOk (row_read line from) IsRegular
 unfolding row_read
-read_regular line from = words_ok (written_part line) (words_from (written_part line) from)
+read_regular line from = row_regular (written_part line) (words_from (written_part line) from)
 
 ok_is : (r : Read Row) (row : Row) → r ≡ Ok row → IfOk r IsRegular → IsRegular row
 ok_is r row e h = rw e at h

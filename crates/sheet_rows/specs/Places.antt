@@ -1,6 +1,6 @@
 -- What the edits of the code answer, and how it finds names by their places.
 use Rattle.std.specs.Prelude.{ℕ, Bool, false, ◌||◌, nat_lt, is_some, List, position, Option, None, Some, Result, Ok, Err, bytes_eq}
-use Rattle.decimal18.specs.Memory.{Gives}
+use Rattle.line_text.specs.Memory.{Gives}
 use Rattle.sheet_rows.specs.Rows.{Sheet, row_of, name_of}
 use Rattle.sheet_rows.specs.Sheets.{Verdict, is_named}
 use Rattle.sheet_rows.specs.declared.row.Row.{Row as CodeRow}

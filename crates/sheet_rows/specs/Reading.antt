@@ -8,12 +8,12 @@ use Rattle.decimal18.specs.Literal.{parsed}
 use Rattle.decimal18.specs.declared.literal.NumFault.{NumFault}
 use Rattle.decimal18.specs.declared.literal.NumFault.TheVariants.{NotNumber as NoLiteral, NumberRange as NoBound}
 use Rattle.formula_ast.specs.Names.{is_plain_name}
-use Rattle.formula_ast.specs.Tokens.{is_blank}
 use Rattle.formula_ast.specs.Trees.{Tree}
 use Rattle.formula_ast.specs.Reading.{reading_of}
 use Rattle.formula_ast.specs.declared.fault.FormulaFault.{FormulaFault}
 use Rattle.formula_ast.specs.declared.fault.FormulaFault.TheVariants.{Syntax as FormulaSyntax, UnknownFunction as FormulaFunction, Number as FormulaNumber, BadPower as FormulaPower, TooDeep as FormulaDeep, TooMany as FormulaMany, OutOfMemory as FormulaMemory}
-use Rattle.line_words.specs.Words.{Word, words_from, written_part}
+use Rattle.line_text.specs.Blanks.{is_blank}
+use Rattle.line_text.specs.Words.{Word, words_from, written_part}
 use Rattle.type_b.specs.Shapes.{checked}
 use Rattle.type_b.specs.declared.shape.Shape.{Shape}
 use Rattle.type_b.specs.declared.shape.Shape.TheVariants.{Exact, Std}
@@ -32,22 +32,22 @@ then_read (Ok x) next = next x
 
 -- ---- words. `end` is the length of the line
 -- what was read, and the words after it
-pub record Front (A : Type 0) : Type 0 where
+pub record Parsed (A : Type 0) : Type 0 where
   pub item : A
   pub rest : List Word
 
 -- a plain name
-abbrev pub plain_word : ℕ → List Word → Read (Front (List ℕ))
+abbrev pub plain_word : ℕ → List Word → Read (Parsed (List ℕ))
 plain_word end [] = Err (Syntax (end + 1))
 plain_word end (w ∷ ws) = if is_plain_name w.text then Ok (record { item = w.text; rest = ws }) else Err (Syntax (w.place + 1))
 
 -- a number
-abbrev pub number_in : Word → List Word → Result Bound NumFault → Read (Front Bound)
+abbrev pub number_in : Word → List Word → Result Bound NumFault → Read (Parsed Bound)
 number_in w ws (Ok b) = Ok (record { item = b; rest = ws })
 number_in w ws (Err NoLiteral) = Err (NotNumber (w.place + 1))
 number_in w ws (Err NoBound) = Err (NumberRange (w.place + 1))
 
-abbrev pub number_word : ℕ → List Word → Read (Front Bound)
+abbrev pub number_word : ℕ → List Word → Read (Parsed Bound)
 number_word end [] = Err (Syntax (end + 1))
 number_word end (w ∷ ws) = number_in w ws (parsed w.text)
 
@@ -70,10 +70,10 @@ other_word other place = if other then NotBuilt else Syntax (place + 1)
 
 -- ---- inputs
 -- the shape `std`, with the standard uncertainty after it
-abbrev pub std_shape : Front Bound → Read (Front Shape)
+abbrev pub std_shape : Parsed Bound → Read (Parsed Shape)
 std_shape u = Ok (record { item = Std u.item; rest = u.rest })
 
-abbrev pub shape_word : ℕ → List Word → Read (Front Shape)
+abbrev pub shape_word : ℕ → List Word → Read (Parsed Shape)
 shape_word end [] = Err (Syntax (end + 1))
 shape_word end (w ∷ ws) =
     if bytes_eq w.text (codes "exact") then Ok (record { item = Exact; rest = ws }) else
@@ -101,7 +101,7 @@ given_of end ws =
 
 -- ---- formulas: the blanks round `=` may be missing
 -- what was read, and the place after it
-pub record Behind (A : Type 0) : Type 0 where
+pub record ParsedTo (A : Type 0) : Type 0 where
   pub item : A
   pub at : ℕ
 
@@ -118,10 +118,10 @@ abbrev pub leading_name : List ℕ → List ℕ
 leading_name text = take (prefix_len is_in_name text) text
 
 -- a plain name at the place `at`
-abbrev pub name_in : ℕ → List ℕ → Read (Behind (List ℕ))
+abbrev pub name_in : ℕ → List ℕ → Read (ParsedTo (List ℕ))
 name_in at name = if is_plain_name name then Ok (record { item = name; at = at + length name }) else Err (Syntax (at + 1))
 
-abbrev pub name_at : List ℕ → ℕ → Read (Behind (List ℕ))
+abbrev pub name_at : List ℕ → ℕ → Read (ParsedTo (List ℕ))
 name_at line at = name_in at (leading_name (drop at line))
 
 abbrev pub begins_equals : List ℕ → Bool

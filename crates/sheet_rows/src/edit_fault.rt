@@ -1,5 +1,5 @@
-use decimal18::OutOfMemory;
 use formula_ast::Name;
+use line_text::OutOfMemory;
 
 /// Why a sheet is not edited.
 #[derive(Clone, Copy, Debug, PartialEq, Eq)]

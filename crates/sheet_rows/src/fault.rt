@@ -1,4 +1,4 @@
-use decimal18::OutOfMemory;
+use line_text::OutOfMemory;
 use type_b::ShapeFault;
 
 /// Why a line gives no row. A place is that of the word or token that breaks a rule, counted from 1; where

@@ -19,7 +19,6 @@ mod sheet;
 mod tests;
 mod users;
 
-pub use decimal18::OutOfMemory;
 pub use edit_fault::EditFault;
 pub use fault::RowFault;
 pub use laws::{
@@ -28,7 +27,7 @@ pub use laws::{
     the_empty_sheet_stands,
 };
 pub use print::print_row;
-pub use read::read_row;
+pub use read::{read_begun_row, read_row, read_row_words};
 pub use reading_laws::{printed_rows_are_read_again, rows_are_never_out_of_memory};
 pub use row::Row;
 pub use row_list::RowList;

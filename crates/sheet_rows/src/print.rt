@@ -4,8 +4,8 @@ ghost use Rattle.sheet_rows.specs.Regular.{IsRegular};
 ghost use Rattle.sheet_rows.specs.Printing.{shape_text, printed};
 
 use crate::row::Row;
-use decimal18::{Bytes, OutOfMemory};
 use formula_ast::print_formula;
+use line_text::{Bytes, OutOfMemory};
 use std::alloc::Global;
 use type_b::Shape;
 

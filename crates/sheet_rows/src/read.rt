@@ -1,15 +1,15 @@
-ghost use Rattle.std.specs.Prelude.{◌≡◌, ◌≤◌, true, length, drop, IfOk, Err};
-ghost use Rattle.line_words.specs.Words.{words_from, written_part};
+ghost use Rattle.std.specs.Prelude.{◌≡◌, ◌+◌, ◌≤◌, ◌∷◌, true, length, IfOk, Err};
+ghost use Rattle.line_text.specs.Memory.{GivesBy};
+ghost use Rattle.line_text.specs.Words.{word_of, words_left, words_from, written_part};
 ghost use Rattle.sheet_rows.specs.Rows.{row_of};
 ghost use Rattle.sheet_rows.specs.Regular.{IsRegular};
-ghost use Rattle.sheet_rows.specs.Reading.{is_other_kind, begin_formula, row_at, row_from, row_read};
-ghost use Rattle.sheet_rows.specs.Answers.{GivesRow};
+ghost use Rattle.sheet_rows.specs.Reading.{is_other_kind, begin_formula, row_at, row_read};
 
 use crate::fault::RowFault;
 use crate::read_given::read_given;
 use crate::read_let::read_let;
 use crate::row::Row;
-use line_words::{next_word, written_part};
+use line_text::{Word, Words, written_part};
 use std::alloc::Global;
 
 const GIVEN: &[u8] = b"given";
@@ -32,27 +32,44 @@ fn is_other_kind(word: &[u8]) -> bool
     word == READINGS || word == TABLE || word == CORR || word == TOL
 }
 
-/// The row that the line, which has no comment and no last blanks, gives from the place `at` on.
-fn read_written(alloc: Global, line: &[u8], at: usize) -> Result<Row, RowFault>
-    requires { at ≤ length line.now }
-    ensures exact { GivesRow result (row_from line.now at) }
-    ensures memory { result ≡ Err RowFault.OutOfMemory → begin_formula (words_from line.now at) ≡ true }
+/// The row that the word `first` begins, where `words` are those after it in the line, which has no comment and
+/// no last blanks.
+///
+/// # Errors
+///
+/// The first word or token that breaks a rule, with its place in the line; out of memory for formula rows alone.
+pub fn read_begun_row(alloc: Global, first: &Word<'_>, words: Words<'_>) -> Result<Row, RowFault>
+    requires { words.at ≡ first.now.place + length first.now.text.now }
+    ensures exact { GivesBy row_of RowFault.OutOfMemory result (row_at words.entry.line (word_of first.now ∷ words_left words.entry)) }
+    ensures memory { result ≡ Err RowFault.OutOfMemory → begin_formula (word_of first.now ∷ words_left words.entry) ≡ true }
     ensures regular { IfOk result (λ row. IsRegular (row_of row)) }
 {
-    let Some((place, word)) = next_word(line, at) else {
-        return Err(RowFault::Syntax(line.len() + 1));
-    };
-    let after = place + word.len();
-    if word == GIVEN {
-        return read_given(line, after);
+    if first.text == GIVEN {
+        return read_given(words);
     }
-    if word == LET {
-        return read_let(alloc, line, after);
+    if first.text == LET {
+        return read_let(alloc, words.line(), words.at());
     }
-    if is_other_kind(word) {
+    if is_other_kind(first.text) {
         return Err(RowFault::NotBuilt);
     }
-    Err(RowFault::Syntax(place + 1))
+    Err(RowFault::Syntax(first.place + 1))
+}
+
+/// The row that these words of a line give, which has no comment and no last blanks.
+///
+/// # Errors
+///
+/// As of [`read_begun_row`].
+pub fn read_row_words(alloc: Global, mut words: Words<'_>) -> Result<Row, RowFault>
+    ensures exact { GivesBy row_of RowFault.OutOfMemory result (row_at words.entry.line (words_left words.entry)) }
+    ensures memory { result ≡ Err RowFault.OutOfMemory → begin_formula (words_left words.entry) ≡ true }
+    ensures regular { IfOk result (λ row. IsRegular (row_of row)) }
+{
+    let Some(first) = words.next() else {
+        return Err(RowFault::Syntax(words.end() + 1));
+    };
+    read_begun_row(alloc, &first, words)
 }
 
 /// The row that the line gives from the byte `from` on. The line's comment, which begins with the first `#`,
@@ -60,9 +77,9 @@ fn read_written(alloc: Global, line: &[u8], at: usize) -> Result<Row, RowFault>
 ///
 /// # Errors
 ///
-/// The first word or token that breaks a rule, with its place in the line; out of memory for formula rows alone.
+/// As of [`read_begun_row`].
 pub fn read_row(alloc: Global, line: &[u8], from: usize) -> Result<Row, RowFault>
-    ensures exact { GivesRow result (row_read line.now from) }
+    ensures exact { GivesBy row_of RowFault.OutOfMemory result (row_read line.now from) }
     ensures memory { result ≡ Err RowFault.OutOfMemory → begin_formula (words_from (written_part line.now) from) ≡ true }
     ensures regular { IfOk result (λ row. IsRegular (row_of row)) }
 {
@@ -70,5 +87,5 @@ pub fn read_row(alloc: Global, line: &[u8], from: usize) -> Result<Row, RowFault
     if from > text.len() {
         return Err(RowFault::Syntax(text.len() + 1));
     }
-    read_written(alloc, text, from)
+    read_row_words(alloc, Words::from(text, from))
 }

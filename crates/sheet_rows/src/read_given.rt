@@ -1,9 +1,8 @@
-//! An input: `NAME ESTIMATE exact` or `NAME ESTIMATE std UNCERTAINTY`, word by word. Each part is read from
-//! a place of the line on, and gives the place after it. The line has no comment and no last blanks.
+//! An input: `NAME ESTIMATE exact` or `NAME ESTIMATE std UNCERTAINTY`, word by word. Each part takes its words.
 
-ghost use Rattle.std.specs.Prelude.{◌≡◌, ◌≤◌, true, length, Ok, Err, IfOk, IfErr};
+ghost use Rattle.std.specs.Prelude.{◌≡◌, true, length, Ok, Err, IfOk, IfErr};
 ghost use Rattle.formula_ast.specs.Names.{is_plain_name};
-ghost use Rattle.line_words.specs.Words.{words_from};
+ghost use Rattle.line_text.specs.Words.{words_left};
 ghost use Rattle.sheet_rows.specs.Rows.{row_of};
 ghost use Rattle.sheet_rows.specs.Regular.{IsRegular};
 ghost use Rattle.sheet_rows.specs.Reading.{plain_word, number_word, is_other_shape, is_degrees_word, shape_word, ended, given_of};
@@ -12,7 +11,7 @@ use crate::fault::RowFault;
 use crate::row::Row;
 use decimal18::{Dec, NumFault, parse};
 use formula_ast::Name;
-use line_words::next_word;
+use line_text::Words;
 use type_b::{Dof, Shape, check};
 
 const EXACT: &[u8] = b"exact";
@@ -33,38 +32,36 @@ const TRAP: &[u8] = b"trap";
 const ARCSINE: &[u8] = b"arcsine";
 
 /// A plain name.
-fn read_plain(line: &[u8], at: usize) -> Result<(Name, usize), RowFault>
-    requires { at ≤ length line.now }
-    ensures ok { IfOk result (λ r. plain_word (length line.now) (words_from line.now at)
-        ≡ Ok (record { item = r.0; rest = words_from line.now r.1 })) }
-    ensures err { IfErr result (λ fault. plain_word (length line.now) (words_from line.now at) ≡ Err fault) }
-    ensures within { IfOk result (λ r. r.1 ≤ length line.now) }
-    ensures plain { IfOk result (λ r. is_plain_name r.0 ≡ true) }
+fn read_plain(words: &mut Words<'_>) -> Result<Name, RowFault>
+    ensures ok { IfOk result (λ name. plain_word (length words.old.line) (words_left words.old)
+        ≡ Ok (record { item = name; rest = words_left words.new })) }
+    ensures err { IfErr result (λ fault. plain_word (length words.old.line) (words_left words.old) ≡ Err fault) }
+    ensures line { words.new.line ≡ words.old.line }
+    ensures plain { IfOk result (λ name. is_plain_name name ≡ true) }
 {
-    let Some((place, word)) = next_word(line, at) else {
-        return Err(RowFault::Syntax(line.len() + 1));
+    let Some(word) = words.next() else {
+        return Err(RowFault::Syntax(words.end() + 1));
     };
-    let Some(name) = Name::plain(word) else {
-        return Err(RowFault::Syntax(place + 1));
-    };
-    Ok((name, place + word.len()))
+    match Name::plain(word.text) {
+        Some(name) => Ok(name),
+        None => Err(RowFault::Syntax(word.place + 1)),
+    }
 }
 
 /// A number.
-fn read_number(line: &[u8], at: usize) -> Result<(Dec, usize), RowFault>
-    requires { at ≤ length line.now }
-    ensures ok { IfOk result (λ r. number_word (length line.now) (words_from line.now at)
-        ≡ Ok (record { item = r.0; rest = words_from line.now r.1 })) }
-    ensures err { IfErr result (λ fault. number_word (length line.now) (words_from line.now at) ≡ Err fault) }
-    ensures within { IfOk result (λ r. r.1 ≤ length line.now) }
+fn read_number(words: &mut Words<'_>) -> Result<Dec, RowFault>
+    ensures ok { IfOk result (λ number. number_word (length words.old.line) (words_left words.old)
+        ≡ Ok (record { item = number; rest = words_left words.new })) }
+    ensures err { IfErr result (λ fault. number_word (length words.old.line) (words_left words.old) ≡ Err fault) }
+    ensures line { words.new.line ≡ words.old.line }
 {
-    let Some((place, word)) = next_word(line, at) else {
-        return Err(RowFault::Syntax(line.len() + 1));
+    let Some(word) = words.next() else {
+        return Err(RowFault::Syntax(words.end() + 1));
     };
-    match parse(word) {
-        Ok(number) => Ok((number, place + word.len())),
-        Err(NumFault::NotNumber) => Err(RowFault::NotNumber(place + 1)),
-        Err(NumFault::NumberRange) => Err(RowFault::NumberRange(place + 1)),
+    match parse(word.text) {
+        Ok(number) => Ok(number),
+        Err(NumFault::NotNumber) => Err(RowFault::NotNumber(word.place + 1)),
+        Err(NumFault::NumberRange) => Err(RowFault::NumberRange(word.place + 1)),
     }
 }
 
@@ -83,55 +80,51 @@ fn is_degrees_word(word: &[u8]) -> bool
 }
 
 /// A shape, with its parameter.
-fn read_shape(line: &[u8], at: usize) -> Result<(Shape, usize), RowFault>
-    requires { at ≤ length line.now }
-    ensures ok { IfOk result (λ r. shape_word (length line.now) (words_from line.now at)
-        ≡ Ok (record { item = r.0; rest = words_from line.now r.1 })) }
-    ensures err { IfErr result (λ fault. shape_word (length line.now) (words_from line.now at) ≡ Err fault) }
-    ensures within { IfOk result (λ r. r.1 ≤ length line.now) }
+fn read_shape(words: &mut Words<'_>) -> Result<Shape, RowFault>
+    ensures ok { IfOk result (λ shape. shape_word (length words.old.line) (words_left words.old)
+        ≡ Ok (record { item = shape; rest = words_left words.new })) }
+    ensures err { IfErr result (λ fault. shape_word (length words.old.line) (words_left words.old) ≡ Err fault) }
+    ensures line { words.new.line ≡ words.old.line }
 {
-    let Some((place, word)) = next_word(line, at) else {
-        return Err(RowFault::Syntax(line.len() + 1));
+    let Some(word) = words.next() else {
+        return Err(RowFault::Syntax(words.end() + 1));
     };
-    let after = place + word.len();
-    if word == EXACT {
-        return Ok((Shape::Exact, after));
+    if word.text == EXACT {
+        return Ok(Shape::Exact);
     }
-    if word == STD {
-        let (u, after) = read_number(line, after)?;
-        return Ok((Shape::Std { u }, after));
+    if word.text == STD {
+        let u = read_number(words)?;
+        return Ok(Shape::Std { u });
     }
-    if is_other_shape(word) {
+    if is_other_shape(word.text) {
         return Err(RowFault::NotBuilt);
     }
-    Err(RowFault::Syntax(place + 1))
+    Err(RowFault::Syntax(word.place + 1))
 }
 
 /// No word more.
-fn read_end(line: &[u8], at: usize) -> Result<(), RowFault>
-    requires { at ≤ length line.now }
-    ensures { result ≡ ended (words_from line.now at) }
+fn read_end(words: &mut Words<'_>) -> Result<(), RowFault>
+    ensures { result ≡ ended (words_left words.old) }
 {
-    let Some((place, word)) = next_word(line, at) else {
+    let Some(word) = words.next() else {
         return Ok(());
     };
-    if is_degrees_word(word) {
+    if is_degrees_word(word.text) {
         return Err(RowFault::NotBuilt);
     }
-    Err(RowFault::Syntax(place + 1))
+    Err(RowFault::Syntax(word.place + 1))
 }
 
 /// The input that the words after `given` are.
-pub fn read_given(line: &[u8], at: usize) -> Result<Row, RowFault>
-    requires { at ≤ length line.now }
-    ensures ok { IfOk result (λ row. given_of (length line.now) (words_from line.now at) ≡ Ok (row_of row)) }
-    ensures err { IfErr result (λ fault. given_of (length line.now) (words_from line.now at) ≡ Err fault) }
+pub fn read_given(mut words: Words<'_>) -> Result<Row, RowFault>
+    ensures ok { IfOk result (λ row. given_of (length words.entry.line) (words_left words.entry) ≡ Ok (row_of row)) }
+    ensures err { IfErr result (λ fault. given_of (length words.entry.line) (words_left words.entry) ≡ Err fault) }
     ensures regular { IfOk result (λ row. IsRegular (row_of row)) }
 {
-    let (name, at) = read_plain(line, at)?;
-    let (estimate, at) = read_number(line, at)?;
-    let (shape, at) = read_shape(line, at)?;
-    read_end(line, at)?;
+    let name = read_plain(&mut words)?;
+    let estimate = read_number(&mut words)?;
+    let shape = read_shape(&mut words)?;
+    read_end(&mut words)?;
     check(&shape)?;
     Ok(Row::Given {
         name,

@@ -3,6 +3,8 @@
 
 ghost use Rattle.std.specs.Prelude.{◌≡◌, ◌+◌, ◌<◌, ◌≤◌, ◌^◌, true, length, drop, take, Ok, Err, IfOk, IfErr};
 ghost use Rattle.std.specs.List.{prefix_len};
+ghost use Rattle.line_text.specs.Memory.{GivesBy};
+ghost use Rattle.formula_ast.specs.FaultPlaces.{place_of};
 ghost use Rattle.formula_ast.specs.Names.{is_plain_name};
 ghost use Rattle.formula_ast.specs.Printing.{print};
 ghost use Rattle.formula_ast.specs.Reading.{reading_of};
@@ -10,14 +12,12 @@ ghost use Rattle.formula_ast.specs.Views.{tree_of};
 ghost use Rattle.sheet_rows.specs.Rows.{row_of};
 ghost use Rattle.sheet_rows.specs.Regular.{IsRegular};
 ghost use Rattle.sheet_rows.specs.Reading.{is_in_name, leading_name, past_blanks, name_at, begins_equals, equals_at, formula_fault, formula_at, let_of};
-ghost use Rattle.sheet_rows.specs.Answers.{GivesTree, GivesRow};
-ghost use Rattle.sheet_rows.specs.FaultPlaces.{place_of};
 
 use crate::fault::RowFault;
 use crate::row::Row;
-use decimal18::{NumFault, OutOfMemory};
-use formula_ast::{Formula, FormulaFault, Name, blanks_len, is_blank, read_formula};
-use line_words::after;
+use decimal18::NumFault;
+use formula_ast::{Formula, FormulaFault, Name, read_formula};
+use line_text::{OutOfMemory, after, blanks_len, is_blank};
 use std::alloc::Global;
 use std::rc::Rc;
 
@@ -33,12 +33,7 @@ fn name_len(text: &[u8]) -> usize
     ensures is { result ≡ prefix_len is_in_name text.now }
     ensures within { result ≤ length text.now }
 {
-    for (i, byte) in text.iter().enumerate() {
-        if !is_in_name(*byte) {
-            return i;
-        }
-    }
-    text.len()
+    text.iter().take_while(|byte| is_in_name(**byte)).count()
 }
 
 /// The bytes at the start that are neither blank nor `=`.
@@ -116,7 +111,7 @@ fn located(fault: FormulaFault, at: usize) -> RowFault
 /// The formula that the rest of the line is.
 fn read_rest(alloc: Global, line: &[u8], at: usize) -> Result<Formula, RowFault>
     requires { at ≤ length line.now }
-    ensures exact { GivesTree result (formula_at line.now at) }
+    ensures exact { GivesBy tree_of RowFault.OutOfMemory result (formula_at line.now at) }
     ensures again { IfOk result (λ f. reading_of (print (tree_of f)) ≡ Ok (tree_of f)) }
 {
     match read_formula(alloc, after(line, at)) {
@@ -135,7 +130,7 @@ fn shared(alloc: Global, formula: Formula) -> Result<Rc<Formula>, OutOfMemory>
 /// The quantity that the text after `let` is.
 pub fn read_let(alloc: Global, line: &[u8], at: usize) -> Result<Row, RowFault>
     requires { at ≤ length line.now }
-    ensures exact { GivesRow result (let_of line.now at) }
+    ensures exact { GivesBy row_of RowFault.OutOfMemory result (let_of line.now at) }
     ensures regular { IfOk result (λ row. IsRegular (row_of row)) }
 {
     let (name, at) = read_name(line, past_blanks(line, at))?;

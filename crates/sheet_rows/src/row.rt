@@ -1,8 +1,9 @@
 ghost use Rattle.std.specs.Prelude.{◌≡◌, IfOk};
 ghost use Rattle.sheet_rows.specs.Rows.{row_of, name_of, names_used};
 
-use decimal18::{Dec, OutOfMemory};
+use decimal18::Dec;
 use formula_ast::{Formula, Name, NameList, names};
+use line_text::OutOfMemory;
 use std::alloc::Global;
 use std::rc::Rc;
 use type_b::{Dof, Shape};

@@ -2,7 +2,7 @@ ghost use Rattle.std.specs.Prelude.{◌≡◌, [], ◌∷◌, ◌++◌, map, IfO
 ghost use Rattle.sheet_rows.specs.Rows.{row_of};
 
 use crate::row::Row;
-use decimal18::OutOfMemory;
+use line_text::OutOfMemory;
 use std::alloc::Global;
 use std::marker::Model;
 use std::rc::Rc;

@@ -6,9 +6,9 @@ ghost use Rattle.sheet_rows.specs.Sheets.{is_named, has_quantity, added, set_row
 ghost use Rattle.sheet_rows.specs.Places.{place_of, code_name};
 
 use crate::row::Row;
-use decimal18::OutOfMemory;
 use formula_ast::Name;
 use indexmap::IndexMap;
+use line_text::OutOfMemory;
 use std::alloc::Global;
 use std::marker::Model;
 use std::rc::Rc;

@@ -1,7 +1,6 @@
 ghost use Rattle.std.specs.Prelude.{◌≡◌, ◌+◌, IfOk, Ok};
 ghost use Rattle.std.specs.Option.{ok_or};
 ghost use Rattle.fixed_interval.specs.Interval.{Encloses};
-ghost use Rattle.fixed_interval.specs.Rules.{zero_bound};
 ghost use Rattle.type_b.specs.Shapes.{checked, variance_of, variance_span, steps_of_variance};
 
 use crate::shape::Shape;
@@ -22,16 +21,10 @@ pub fn variance<L: Ledger>(shape: &Shape, steps: &mut Steps<L>) -> Result<Span, 
     ensures ticks { steps.new ≡ steps.old + steps_of_variance shape.now }
 {
     match shape {
-        Shape::Exact => Ok(point(zero(), steps)),
+        Shape::Exact => Ok(point(Dec::whole(0), steps)),
         Shape::Std { u } => {
             let deviation = point(*u, steps);
             sqr(&deviation, steps)
         }
     }
-}
-
-fn zero() -> Dec
-    ensures { result ≡ zero_bound }
-{
-    Dec::new(0, 0).unwrap()
 }

@@ -12,7 +12,6 @@ mod laws;
 mod tests;
 mod values;
 
-pub use decimal18::OutOfMemory;
 pub use evaluation::Evaluation;
 pub use laws::{
     distinct_names_find_the_same, order_changes_nothing, unknown_has_no_value, values_are_enclosed,

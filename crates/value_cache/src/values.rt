@@ -7,11 +7,12 @@ ghost use Rattle.value_cache.specs.Evaluable.{Keeps, with_quantity};
 ghost use Rattle.value_cache.specs.Cells.{kept};
 
 use crate::evaluation::Evaluation;
-use decimal18::{Dec, OutOfMemory};
+use decimal18::Dec;
 use fixed_interval::{Span, Steps, point};
 use formula_ast::{Formula, Name, NameList};
 use formula_box::{Env, EvalFault, eval};
 use indexmap::IndexMap;
+use line_text::OutOfMemory;
 use std::alloc::Global;
 use std::marker::Model;
 use std::sync::ledger::Ledger;

@@ -5,4 +5,4 @@ pub invariant_of-result : goal.invariant_of-result
 invariant_of-result c = record { ordered = ≤ℚ_refl _ }
 
 pub returns-clause-encloses : goal.returns-clause-encloses
-returns-clause-encloses c = rw c.whole_number-zero.ensures (record { low = ≤ℚ_refl _; high = ≤ℚ_refl _ })
+returns-clause-encloses c = rw c.whole-zero.ensures (record { low = ≤ℚ_refl _; high = ≤ℚ_refl _ })

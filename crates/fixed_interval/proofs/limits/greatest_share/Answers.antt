@@ -9,7 +9,7 @@ div_up-requires c = coefficient_not_zero c.lo-2.result
     (rw (← c.lo.ensures.value, ← c.hi.ensures.value, ← c.is_at_most.ensures) c.if-is_at_most.false)))
 
 pub returns-then-is_at_most : goal.returns-then-is_at_most
-returns-then-is_at_most c = rw c.whole_number.ensures
+returns-then-is_at_most c = rw c.whole.ensures
     (greatest_is_one c.args.part.now c.args.whole.now
     (rw (← c.lo.ensures.value, ← c.hi.ensures.value, ← c.is_at_most.ensures) c.if-is_at_most.true))
 

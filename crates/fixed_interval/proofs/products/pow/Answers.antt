@@ -14,7 +14,7 @@ returns-then-k-gt0-clause-encloses g c =
 pub returns-clause-encloses : goal.returns-clause-encloses
 returns-clause-encloses g c =
     let size : c.unsigned_abs.result ≡ unsigned_abs c.args.k = omega (arith, ints) in
-    negative_encloses c.args.a.now c.in-Ok.power c.whole_number.result c.args.k c.unsigned_abs.result c.div.result size (omega (arith, ints))
+    negative_encloses c.args.a.now c.in-Ok.power c.whole.result c.args.k c.unsigned_abs.result c.div.result size (omega (arith, ints))
     c.requires.nonzero
     (some_of_ok (power_span c.args.a.now c.unsigned_abs.result) _ c.in-Ok.power (sym c.in-Ok.is ∙ c.whole_power.ensures.span))
-    c.whole_number.ensures (rw c.point-one.ensures.span at c.div.ensures.encloses)
+    c.whole.ensures (rw c.point-one.ensures.span at c.div.ensures.encloses)

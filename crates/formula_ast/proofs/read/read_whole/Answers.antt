@@ -1,17 +1,16 @@
 use Rattle.std.proofs.Common.{◌-◌, length, sym, ◌∙◌}
-use Rattle.formula_ast.specs.Reading.{reading_of}
 use Rattle.formula_ast.specs.States.{stage_of, outside}
-use Rattle.formula_ast.proofs.ReadLoop.{not_empty, read_first, read_ruled, read_more, fails_by}
+use Rattle.formula_ast.proofs.FirstTokenSteps.{passed}
+use Rattle.formula_ast.proofs.ReadLoop.{not_empty, read_first, read_ruled, read_more}
 use Rattle.formula_ast.proofs.read.read_whole.Goals as goal
 
 pub loop-rest-init : goal.loop-rest-init
 loop-rest-init c =
     rw (c.new-outer.ensures.items, c.first-state.ensures)
-    (read_first c.args.text.now c.skip_blanks-rest.result.now c.skip_blanks-rest.ensures)
+    (read_first c.args.text.now c.skip_blanks-rest.result.now (rw c.skip_blanks-rest.ensures.is (passed c.args.text.now)))
 
 pub returns-in-Some : goal.returns-in-Some
-returns-in-Some c =
-    fails_by c.in-Some.fault (reading_of c.args.text.now)
+returns-in-Some c = λ told.
     (read_ruled c.args.text.now c.loop-rest.rest.now c.split_token-token.result.1.now (stage_of c.loop-rest.state c.loop-rest.outer.items)
     c.loop-rest.nodes c.loop-rest.end c.split_token-token.result.0.len c.split_token-token.result.0.kind c.opens.result c.in-Some.fault
     c.loop-rest.invariant

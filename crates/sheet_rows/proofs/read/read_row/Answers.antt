@@ -9,4 +9,5 @@ returns-then-from-text-clause-exact c =
 
 pub returns-clause-exact : goal.returns-clause-exact
 unfolding row_read
-returns-clause-exact c = rw (← c.written_part-text.ensures) c.read_written.ensures.exact
+returns-clause-exact c =
+    rw (← c.written_part-text.ensures) (rw c.from.ensures at c.read_row_words.ensures.exact)

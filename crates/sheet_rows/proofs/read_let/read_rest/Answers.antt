@@ -1,12 +1,10 @@
 use Rattle.std.proofs.Common.{arith}
 use Rattle.formula_ast.specs.Views.{tree_of}
 use Rattle.formula_ast.proofs.Again.{read_again}
-use Rattle.sheet_rows.proofs.Placing.{fault_within}
 use Rattle.sheet_rows.proofs.read_let.read_rest.Goals as goal
 
 pub located-requires : goal.located-requires
-located-requires c =
-    omega (arith, fault_within c.after.result.now c.in-Err.fault c.in-Err.ensures.exact, c.after.ensures.length, c.requires)
+located-requires c = omega (arith, c.in-Err.ensures.within, c.after.ensures.length, c.requires)
 
 pub returns-in-Ok-clause-again : goal.returns-in-Ok-clause-again
 returns-in-Ok-clause-again c = read_again c.after.result.now (tree_of c.in-Ok.formula) c.in-Ok.ensures.exact

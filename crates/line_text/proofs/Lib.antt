@@ -1,0 +1,3 @@
+pub mod PieceSteps
+pub mod WordSteps
+pub mod WrittenTexts

@@ -1,0 +1,4 @@
+pub mod Memory
+pub mod Blanks
+pub mod Pieces
+pub mod Words
