@@ -16,11 +16,11 @@ use Rattle.formula_ast.specs.Grammar.{Written, Digits, Word, Minused, Both, Powe
 use Rattle.formula_ast.specs.Machine.{writings, first_stage, run}
 use Rattle.formula_ast.specs.Printing.{print}
 use Rattle.formula_ast.specs.Reading.{is_open, most_nodes, reading_of}
-use Rattle.formula_ast.specs.declared.token.Sign.TheVariants.{Plus, Minus, Times, Over}
 use Rattle.formula_ast.specs.declared.token.Kind.{Kind}
 use Rattle.formula_ast.specs.declared.token.Kind.TheVariants.{Number, Name, Joins, Hat, Open, Close, Glued, Wrong}
 use Rattle.formula_ast.proofs.Sound.{read_spelt}
 use Rattle.formula_ast.proofs.Complete.{written_again}
+use Rattle.formula_ast.proofs.Guards.{cond_holds}
 use Rattle.formula_ast.proofs.Nesting.{Has, Fits}
 use Rattle.formula_ast.proofs.AgainNodes.{some_is, reading_few, reading_fits, reading_again}
 use Rattle.formula_ast.proofs.Printed.{as_written, printed_grammatical, printed_means, prints_flat, groups, prints_lean}
@@ -31,33 +31,18 @@ use Rattle.formula_ast.proofs.PrintedTokens.{words, kinds_words, IsNamed, IsDigi
 abbrev pub IsKindRegular : Kind → Type 0
 IsKindRegular (Number value power) = IfSome value IsPrintable × IfSome power IsDigit
 IsKindRegular (Name name) = IsNamed name
-IsKindRegular (Joins s) = Unit {0}
-IsKindRegular Hat = Unit {0}
-IsKindRegular Open = Unit {0}
-IsKindRegular Close = Unit {0}
-IsKindRegular Glued = Unit {0}
-IsKindRegular Wrong = Unit {0}
+IsKindRegular k = Unit {0}
 
 abbrev pub AreRegular : List Kind → Type 0
 AreRegular [] = Unit {0}
 AreRegular (k ∷ ks) = IsKindRegular k × AreRegular ks
 
-cond_regular : (t : Bool) (a b : Kind) → IsKindRegular a → IsKindRegular b → IsKindRegular (cond t a b)
-cond_regular true a b h k = h
-cond_regular false a b h k = k
-
 mark_regular : (byte : ℕ) → IsKindRegular (mark_kind byte)
-mark_regular byte = nested (byte == 43) (byte == 45) (byte == 42) (byte == 47) (byte == 94) (byte == 40) (byte == 41) where
-  nested : (a b c d e f g : Bool) → IsKindRegular
-      (cond a (Joins Plus) (cond b (Joins Minus) (cond c (Joins Times) (cond d (Joins Over) (cond e Hat (cond f Open (cond g Close Wrong)))))))
-  nested true b c d e f g = tt
-  nested false true c d e f g = tt
-  nested false false true d e f g = tt
-  nested false false false true e f g = tt
-  nested false false false false true f g = tt
-  nested false false false false false true g = tt
-  nested false false false false false false true = tt
-  nested false false false false false false false = tt
+mark_regular byte =
+    mark (byte == 43) _ _ tt (mark (byte == 45) _ _ tt (mark (byte == 42) _ _ tt (mark (byte == 47) _ _ tt
+    (mark (byte == 94) _ _ tt (mark (byte == 40) _ _ tt (mark (byte == 41) _ _ tt tt)))))) where
+      mark : (t : Bool) (a b : Kind) → IsKindRegular a → IsKindRegular b → IsKindRegular (cond t a b)
+      mark = cond_holds IsKindRegular
 
 -- a number
 value_regular : (o : Option Bound) → ((q : Bound) → o ≡ Some q → IsPrintable q) → IfSome o IsPrintable
@@ -83,7 +68,7 @@ power_regular (byte ∷ other ∷ others) = tt
 
 number_regular : (n byte : ℕ) (bytes rest : List ℕ) → is_ascii_digit byte ≡ true → IsKindRegular (number_kind (take n (byte ∷ bytes)) rest)
 number_regular n byte bytes rest d =
-    cond_regular (is_glued rest) Glued (Number (bound_in (parsed (take n (byte ∷ bytes)))) (power_of (take n (byte ∷ bytes)))) tt
+    cond_holds IsKindRegular (is_glued rest) Glued (Number (bound_in (parsed (take n (byte ∷ bytes)))) (power_of (take n (byte ∷ bytes)))) tt
     (first_regular n byte bytes d, power_regular (take n (byte ∷ bytes)))
 
 -- a name
@@ -132,15 +117,11 @@ kind_regular byte bytes = by (is_ascii_digit byte) refl (begins_name byte) refl 
       named_regular (take (prefix_len goes_on_run (byte ∷ bytes)) (byte ∷ bytes)) (run_named byte bytes e)
   by false d false e = mark_regular byte
 
-cond_all_regular : (t : Bool) (a b : List Kind) → AreRegular a → AreRegular b → AreRegular (cond t a b)
-cond_all_regular true a b h k = h
-cond_all_regular false a b h k = k
-
 words_regular : (text : List ℕ) (skip : ℕ) → AreRegular (words text skip)
 words_regular [] skip = tt
 words_regular (byte ∷ bytes) (suc skip) = words_regular bytes skip
 words_regular (byte ∷ bytes) zero =
-    cond_all_regular (is_blank byte) (words bytes 0) (kind_of (byte ∷ bytes) ∷ words bytes (len_of (byte ∷ bytes) - 1))
+    cond_holds AreRegular (is_blank byte) (words bytes 0) (kind_of (byte ∷ bytes) ∷ words bytes (len_of (byte ∷ bytes) - 1))
     (words_regular bytes 0) (kind_regular byte bytes, words_regular bytes (len_of (byte ∷ bytes) - 1))
 
 -- ---- the formulas that texts have
@@ -181,22 +162,23 @@ regular_meant (Group a) b h f =
 
 -- ---- read, printed and read again
 -- what a text that was read is written as
-record WasRead (text : List ℕ) (f : Tree) : Type 0 where
-  spells : SpellsText text f
-  fits : Fits 0 spells.written
-  few : nodes f ≤ most_nodes
-  regular : IsRegular f
+pub record WasRead (text : List ℕ) (f : Tree) : Type 0 where
+  pub spells : SpellsText text f
+  pub fits : Fits 0 spells.written
+  pub few : nodes f ≤ most_nodes
+  pub regular : IsRegular f
 
-was_read : (text : List ℕ) (f : Tree) → reading_of text ≡ Ok f → WasRead text f
+pub written_run : (text : List ℕ) (f : Tree) (h : SpellsText text f) → run writings first_stage (kinds (tokens text 0 0)) ≡ Some h.written
+written_run text f h = ap (λ ks. run writings first_stage ks) (sym h.spelt) ∙ written_again h.written h.grammatical
+
+pub was_read : (text : List ℕ) (f : Tree) → reading_of text ≡ Ok f → WasRead text f
 unfolding reading_of
 was_read text f h =
     let spells = read_spelt text f h in
     let c = spells.written in
-    let written : run writings first_stage (kinds (tokens text 0 0)) ≡ Some c =
-    ap (λ ks. run writings first_stage ks) (sym spells.spelt) ∙ written_again c spells.grammatical in
     let fits : Fits 0 c =
     some_is (run writings first_stage (kinds (tokens text 0 0))) (Fits 0) c
-    (reading_fits (tokens text 0 0) first_stage 0 0 f refl (omega arith, ((tt, tt), tt)) h) written in
+    (reading_fits (tokens text 0 0) first_stage 0 0 f refl (omega arith, ((tt, tt), tt)) h) (written_run text f spells) in
     let tokens_regular : AreRegular (spelling c) =
     subst AreRegular (sym (spells.spelt ∙ kinds_words text 0 0)) (words_regular text 0) in
     record {

@@ -1,54 +1,35 @@
 -- What spells a formula is accepted as it, by the machine over any parts.
-use Rattle.std.specs.Prelude.{◌≡◌, ℕ, suc, ◌+◌, ◌≤◌, ◌<◌, Bool, true, false, cond, ◌&&◌, nat_le, List, [], ◌∷◌, ◌++◌, Option, None, Some, IfSome, Result, Err, refl}
-use Rattle.std.proofs.Common.{sym, ap, ◌∙◌, arith, append_assoc}
+use Rattle.std.specs.Prelude.{◌≡◌, ℕ, suc, ◌+◌, ◌≤◌, ◌<◌, Bool, true, false, List, [], ◌∷◌, ◌++◌, Option, None, Some, IfSome, Result, Err, refl}
+use Rattle.std.proofs.Common.{sym, ap, subst, ◌∙◌, arith, append_assoc}
 use mathlib.Core.List.{append-nil}
 use Rattle.decimal18.specs.Bound.{Bound}
 use Rattle.formula_ast.specs.Trees.{Tree, Opposite, Joined, Raised}
 use Rattle.formula_ast.specs.Tokens.{Token, tokens, kinds}
 use Rattle.formula_ast.specs.Grammar.{Written, Digits, Word, Minused, Both, Powered, Group, tight, rank, IsGrammatical, spelling, exponent_spelling, exponent_of, meant, Spells, SpellsText}
-use Rattle.formula_ast.specs.Machine.{Parts, trees, writings, Waiting, Stage, AtOperand, AtAtom, AtEnd, AtExponent, put, factor_done, fresh, minused, first_stage, adding, multiplying, signed_on, step, finish, then_some, run}
-use Rattle.formula_ast.specs.Reading.{at_end, goes_on, syntax_place, or_else, operand_fault, exponent_fault, word_fault, is_too_deep, is_node, most_nodes, refusal, opens_next, node_count, reading, reading_of}
+use Rattle.formula_ast.specs.Machine.{Parts, trees, writings, Waiting, Stage, AtOperand, AtAtom, AtEnd, AtExponent, put, factor_done, fresh, minused, first_stage, adding, multiplying, signed_on, step, then_some, run}
+use Rattle.formula_ast.specs.Reading.{at_end, unless_refused, goes_on, syntax_place, or_else, operand_fault, exponent_fault, word_fault, is_too_deep, refusal, opens_next, node_count, reading, reading_of}
 use Rattle.formula_ast.specs.Rules.{IsReadOrRuled}
 use Rattle.formula_ast.specs.declared.fault.FormulaFault.{FormulaFault}
-use Rattle.formula_ast.specs.declared.fault.FormulaFault.TheVariants.{Syntax, UnknownFunction, Number as NumberFault, BadPower, TooDeep, TooMany, OutOfMemory}
+use Rattle.formula_ast.specs.declared.fault.FormulaFault.TheVariants.{Syntax, UnknownFunction, TooMany, OutOfMemory}
 use Rattle.formula_ast.specs.declared.token.Sign.{Sign}
 use Rattle.formula_ast.specs.declared.token.Sign.TheVariants.{Plus, Minus, Times, Over}
 use Rattle.formula_ast.specs.declared.token.Kind.{Kind}
-use Rattle.formula_ast.specs.declared.token.Kind.TheVariants.{Number, Name, Joins, Hat, Open, Close, Glued, Wrong}
+use Rattle.formula_ast.specs.declared.token.Kind.TheVariants.{Number, Name, Joins, Hat, Close}
+use Rattle.formula_ast.proofs.Guards.{cond_holds}
 
 -- ---- what may follow a power and a term
 abbrev pub NoHat : List Kind → Type 0
-NoHat [] = Unit {0}
 NoHat (Hat ∷ ks) = ⊥
-NoHat (Number value power ∷ ks) = Unit {0}
-NoHat (Name name ∷ ks) = Unit {0}
-NoHat (Joins s ∷ ks) = Unit {0}
-NoHat (Open ∷ ks) = Unit {0}
-NoHat (Close ∷ ks) = Unit {0}
-NoHat (Glued ∷ ks) = Unit {0}
-NoHat (Wrong ∷ ks) = Unit {0}
+NoHat ks = Unit {0}
 
 abbrev pub EndsTerm : List Kind → Type 0
-EndsTerm [] = Unit {0}
 EndsTerm (Joins s ∷ ks) = tight s ≡ 0
 EndsTerm (Hat ∷ ks) = ⊥
-EndsTerm (Number value power ∷ ks) = Unit {0}
-EndsTerm (Name name ∷ ks) = Unit {0}
-EndsTerm (Open ∷ ks) = Unit {0}
-EndsTerm (Close ∷ ks) = Unit {0}
-EndsTerm (Glued ∷ ks) = Unit {0}
-EndsTerm (Wrong ∷ ks) = Unit {0}
+EndsTerm ks = Unit {0}
 
 no_hat : (ks : List Kind) → EndsTerm ks → NoHat ks
-no_hat [] h = tt
-no_hat (Joins s ∷ ks) h = tt
 no_hat (Hat ∷ ks) h = h
-no_hat (Number value power ∷ ks) h = tt
-no_hat (Name name ∷ ks) h = tt
-no_hat (Open ∷ ks) h = tt
-no_hat (Close ∷ ks) h = tt
-no_hat (Glued ∷ ks) h = tt
-no_hat (Wrong ∷ ks) h = tt
+no_hat ks h = tt
 
 module _ {A : Type 0} (m : Parts A) where
   -- the formula put together by these parts
@@ -65,27 +46,19 @@ module _ {A : Type 0} (m : Parts A) where
   atom_ends l x [] [] h = refl
   atom_ends l x (w ∷ o) [] h = refl
   atom_ends l x o (Hat ∷ ks) h = absurd h
-  atom_ends l x o (Number value power ∷ ks) h = refl
-  atom_ends l x o (Name name ∷ ks) h = refl
-  atom_ends l x o (Joins s ∷ ks) h = refl
-  atom_ends l x o (Open ∷ ks) h = refl
-  atom_ends l x o (Close ∷ ks) h = refl
-  atom_ends l x o (Glued ∷ ks) h = refl
-  atom_ends l x o (Wrong ∷ ks) h = refl
+  atom_ends l x o ks h = refl
 
   sum_sign : (b : ℕ) (left : Option (A × Sign)) (x : A) (o : List (Waiting A)) (s : Sign) → tight s ≡ 0
       → signed_on m b left x o s ≡ adding b (put m left x) s o
   sum_sign b left x o Plus h = refl
   sum_sign b left x o Minus h = refl
-  sum_sign b left x o Times h = absurd (omega arith)
-  sum_sign b left x o Over h = absurd (omega arith)
+  sum_sign b left x o s h = absurd (omega arith)
 
   product_sign : (b : ℕ) (left : Option (A × Sign)) (x : A) (o : List (Waiting A)) (s : Sign) → tight s ≡ 1
       → signed_on m b left x o s ≡ multiplying b left x s o
-  product_sign b left x o Plus h = absurd (omega arith)
-  product_sign b left x o Minus h = absurd (omega arith)
   product_sign b left x o Times h = refl
   product_sign b left x o Over h = refl
+  product_sign b left x o s h = absurd (omega arith)
 
   term_ends : (b : ℕ) (left : Option (A × Sign)) (x : A) (o : List (Waiting A)) (ks : List Kind) → EndsTerm ks
       → run m (AtEnd b left x o) ks ≡ run m (AtEnd b None (put m left x) o) ks
@@ -94,12 +67,7 @@ module _ {A : Type 0} (m : Parts A) where
   term_ends b left x o (Joins s ∷ ks) h =
       ap (λ t. run m t ks) (sum_sign b left x o s h ∙ sym (sum_sign b None (put m left x) o s h))
   term_ends b left x o (Hat ∷ ks) h = absurd h
-  term_ends b left x o (Number value power ∷ ks) h = refl
-  term_ends b left x o (Name name ∷ ks) h = refl
-  term_ends b left x o (Open ∷ ks) h = refl
-  term_ends b left x o (Close ∷ ks) h = refl
-  term_ends b left x o (Glued ∷ ks) h = refl
-  term_ends b left x o (Wrong ∷ ks) h = refl
+  term_ends b left x o ks h = refl
 
   -- ---- what the machine does with the tokens of a formula, as an atom, a factor, a term and a sum
   abbrev pub AtomRead : Written → Type 0
@@ -259,69 +227,44 @@ spell_one ks f g h k =
 -- ---- the reading
 abbrev pub IsRuled : FormulaFault → Type 0
 IsRuled (Syntax at) = ⊥
-IsRuled (UnknownFunction at) = Unit {0}
-IsRuled (NumberFault fault at) = Unit {0}
-IsRuled (BadPower at) = Unit {0}
-IsRuled (TooDeep at) = Unit {0}
-IsRuled (TooMany at) = Unit {0}
 IsRuled OutOfMemory = ⊥
-
-cond_ruled : (t : Bool) (x y : Option FormulaFault) → IfSome x IsRuled → IfSome y IsRuled → IfSome (cond t x y) IsRuled
-cond_ruled true x y h k = h
-cond_ruled false x y h k = k
+IsRuled fault = Unit {0}
 
 else_ruled : (x y : Option FormulaFault) → IfSome x IsRuled → IfSome y IsRuled → IfSome (or_else x y) IsRuled
 else_ruled None y h k = k
 else_ruled (Some x) y h k = h
 
 operand_ruled : (k : Kind) (at : ℕ) (opens : Bool) → IfSome (operand_fault k at opens) IsRuled
-operand_ruled (Name name) at opens = cond_ruled opens (Some (UnknownFunction at)) None tt tt
+operand_ruled (Name name) at opens = cond_holds (λ r. IfSome r IsRuled) opens (Some (UnknownFunction at)) None tt tt
 operand_ruled (Number None power) at opens = tt
-operand_ruled (Number (Some b) power) at opens = tt
-operand_ruled (Joins s) at opens = tt
-operand_ruled Hat at opens = tt
-operand_ruled Open at opens = tt
-operand_ruled Close at opens = tt
-operand_ruled Glued at opens = tt
-operand_ruled Wrong at opens = tt
+operand_ruled k at opens = tt
 
 exponent_ruled : (k : Kind) (at : ℕ) → IfSome (exponent_fault k at) IsRuled
 exponent_ruled (Number value None) at = tt
-exponent_ruled (Number value (Some n)) at = tt
-exponent_ruled (Name name) at = tt
-exponent_ruled (Joins s) at = tt
-exponent_ruled Hat at = tt
-exponent_ruled Open at = tt
-exponent_ruled Close at = tt
-exponent_ruled Glued at = tt
-exponent_ruled Wrong at = tt
+exponent_ruled k at = tt
 
 word_ruled : (s : Stage Tree) (at : ℕ) (k : Kind) (opens : Bool) → IfSome (word_fault s at k opens) IsRuled
 word_ruled (AtOperand l o) at k opens = operand_ruled k at opens
-word_ruled (AtAtom l x o) at k opens = tt
-word_ruled (AtEnd b left x o) at k opens = tt
 word_ruled (AtExponent l x minus o) at k opens = exponent_ruled k at
+word_ruled s at k opens = tt
 
 pub refusal_ruled : (s : Stage Tree) (n at : ℕ) (k : Kind) (opens : Bool) → IfSome (refusal s n at k opens) IsRuled
 refusal_ruled s n at k opens =
-    else_ruled (word_fault s at k opens)
-    (cond (is_too_deep s k) (Some (TooDeep at)) (cond (is_node s k && nat_le most_nodes n) (Some (TooMany at)) None))
-    (word_ruled s at k opens)
-    (cond_ruled (is_too_deep s k) (Some (TooDeep at)) (cond (is_node s k && nat_le most_nodes n) (Some (TooMany at)) None) tt
-    (cond_ruled (is_node s k && nat_le most_nodes n) (Some (TooMany at)) None tt tt))
+    else_ruled (word_fault s at k opens) _ (word_ruled s at k opens)
+    (cond_holds (λ r. IfSome r IsRuled) (is_too_deep s k) _ _ tt (cond_holds (λ r. IfSome r IsRuled) _ (Some (TooMany at)) None tt tt))
+
+-- a fault that is none of the rules' is not theirs
+pub not_refused : (r : Option FormulaFault) (fault : FormulaFault) (e : Result Tree FormulaFault) → IfSome r IsRuled → (IsRuled fault → ⊥)
+    → unless_refused r e ≡ Err fault → e ≡ Err fault
+not_refused None fault e ruled free h = h
+not_refused (Some other) fault e ruled free h =
+    let same : other ≡ fault = cc in
+    absurd (free (subst IsRuled same ruled))
 
 ruled_fault : (fault : FormulaFault) (f : Tree) → IsRuled fault → IsReadOrRuled (Err fault) f
 ruled_fault (Syntax at) f h = h
-ruled_fault (UnknownFunction at) f h = tt
-ruled_fault (NumberFault fault at) f h = tt
-ruled_fault (BadPower at) f h = tt
-ruled_fault (TooDeep at) f h = tt
-ruled_fault (TooMany at) f h = tt
 ruled_fault OutOfMemory f h = h
-
-ended_read : (o : Option Tree) (end : ℕ) (f : Tree) → o ≡ Some f → IsReadOrRuled (at_end o end) f
-ended_read None end f h = absurd (cc)
-ended_read (Some g) end f h = cc
+ruled_fault fault f h = tt
 
 goes_on_read : (o : Option (Stage Tree)) (place : ℕ) (r : Option FormulaFault) (next : Stage Tree → Result Tree FormulaFault)
     (g : Stage Tree → Option Tree) (f : Tree) → IfSome r IsRuled → ((s : Stage Tree) → g s ≡ Some f → IsReadOrRuled (next s) f)
@@ -331,7 +274,7 @@ goes_on_read (Some s) place None next g f q k h = k s h
 goes_on_read (Some s) place (Some fault) next g f q k h = ruled_fault fault f q
 
 reading_read : (ts : List Token) (s : Stage Tree) (n end : ℕ) (f : Tree) → run trees s (kinds ts) ≡ Some f → IsReadOrRuled (reading s n end ts) f
-reading_read [] s n end f h = ended_read (finish trees s) end f h
+reading_read [] s n end f h = subst (λ o. IsReadOrRuled (at_end o end) f) (sym h) refl
 reading_read (t ∷ ts) s n end f h =
     goes_on_read (step trees s t.kind) (syntax_place s t.place t.len t.kind) (refusal s n t.place t.kind (opens_next ts))
     (λ next. reading next (n + node_count s t.kind) (t.place + t.len) ts) (λ next. run trees next (kinds ts)) f

@@ -5,6 +5,7 @@ pub mod Levels
 pub mod Guards
 pub mod ReadLoop
 pub mod NewNamesAll
+pub mod Steps
 pub mod Runs
 pub mod Sound
 pub mod Complete

@@ -2,15 +2,14 @@
 use Rattle.std.specs.Prelude.{◌≡◌, ◌↔◌, ℕ, suc, ◌+◌, ◌≤◌, List, None, Some, Ok, refl}
 use Rattle.std.proofs.Common.{sym, ap, subst, ◌∙◌, arith}
 use Rattle.formula_ast.specs.Trees.{Tree, nodes}
-use Rattle.formula_ast.specs.Tokens.{tokens, kinds}
-use Rattle.formula_ast.specs.Grammar.{Written, Digits, Word, Minused, Both, Powered, Group, SpellsText}
-use Rattle.formula_ast.specs.Machine.{writings, first_stage, run}
+use Rattle.formula_ast.specs.Tokens.{tokens}
+use Rattle.formula_ast.specs.Grammar.{Written, Digits, Word, Minused, Both, Powered, Group}
+use Rattle.formula_ast.specs.Machine.{first_stage}
 use Rattle.formula_ast.specs.Reading.{deepest, most_nodes, reading_of}
 use Rattle.formula_ast.specs.Rules.{HasBounds, nesting, IsFormula}
-use Rattle.formula_ast.proofs.Sound.{read_spelt}
-use Rattle.formula_ast.proofs.Complete.{written_again}
 use Rattle.formula_ast.proofs.Nesting.{Fits}
-use Rattle.formula_ast.proofs.AgainNodes.{some_is, reading_few, reading_fits, reading_again}
+use Rattle.formula_ast.proofs.AgainNodes.{reading_again}
+use Rattle.formula_ast.proofs.Again.{written_run, was_read}
 
 fits_limits : (c : Written) (b : ℕ) → Fits b c → HasBounds c × (b + nesting c ≤ deepest)
 fits_limits (Digits None power) b h = absurd h.0
@@ -39,24 +38,16 @@ limits_fit (Powered a minus value None) b h n = absurd h
 limits_fit (Powered a minus value (Some m)) b h n = (limits_fit a b h n, tt)
 limits_fit (Group a) b h n = limits_fit a (suc b) h (omega arith)
 
-written_run : (text : List ℕ) (f : Tree) (h : SpellsText text f) → run writings first_stage (kinds (tokens text 0 0)) ≡ Some h.written
-written_run text f h = ap (λ ks. run writings first_stage ks) (sym h.spelt) ∙ written_again h.written h.grammatical
-
 read_formula : (text : List ℕ) (f : Tree) → reading_of text ≡ Ok f → IsFormula text f
-unfolding reading_of
 read_formula text f e =
-    let spells = read_spelt text f e in
-    let fits : Fits 0 spells.written =
-    some_is (run writings first_stage (kinds (tokens text 0 0))) (Fits 0) spells.written
-    (reading_fits (tokens text 0 0) first_stage 0 0 f refl (omega arith, ((tt, tt), tt)) e) (written_run text f spells) in
-    let limits = fits_limits spells.written 0 fits in
-    let few : nodes f ≤ most_nodes = reading_few (tokens text 0 0) first_stage 0 0 f refl (omega arith) e in
+    let read = was_read text f e in
+    let limits = fits_limits read.spells.written 0 read.fits in
     record {
-      spells = spells;
+      spells = read.spells;
       limits = record {
         bounds = limits.0;
         nested = omega (arith, limits.1);
-        few = subst (λ g. nodes g ≤ most_nodes) (sym spells.means) few;
+        few = subst (λ g. nodes g ≤ most_nodes) (sym read.spells.means) read.few;
       };
     }
 

@@ -11,6 +11,7 @@ use Rattle.formula_ast.specs.Grammar.{Written, Digits, Word, Minused, Both, Powe
 use Rattle.formula_ast.specs.Printing.{binding}
 use Rattle.formula_ast.specs.declared.token.Sign.{Sign}
 use Rattle.formula_ast.specs.declared.token.Sign.TheVariants.{Plus, Minus, Times, Over}
+use Rattle.formula_ast.proofs.Guards.{cond_holds}
 use Rattle.formula_ast.proofs.Nesting.{Fits, fits_less}
 
 -- in parentheses where it binds less tightly than its place asks for
@@ -46,8 +47,7 @@ guarded_rank least f h = by (nat_lt (binding f) least) refl where
       omega (arith, rank_printed f)
 
 guarded_grammatical : (t : Bool) (w : Written) → IsGrammatical w → IsGrammatical (cond t (Group w) w)
-guarded_grammatical true w h = h
-guarded_grammatical false w h = h
+guarded_grammatical t w h = cond_holds IsGrammatical t (Group w) w h h
 
 tight_below : (s : Sign) → suc (tight s) ≤ 4
 tight_below Plus = omega arith
@@ -75,8 +75,7 @@ printed_grammatical (Raised a k) =
 
 -- ---- it means the formula
 guarded_means : (t : Bool) (w : Written) → meant (cond t (Group w) w) ≡ meant w
-guarded_means true w = refl
-guarded_means false w = refl
+guarded_means t w = cond_holds (λ v. meant v ≡ meant w) t (Group w) w refl refl
 
 exponent_printed : (k : ℤ) → exponent_of (is_below k) (Some (unsigned_abs k)) ≡ k
 exponent_printed (pos n) = refl
@@ -99,23 +98,27 @@ pub record Flat (c : Written) : Type 0 where
   pub guarded : (least b : ℕ) → least ≤ rank c → Fits b c → Fits b (in_parentheses least (meant c) (as_written (meant c)))
 
 -- where it has the rank that it is printed at, no parentheses are put
+no_guard : (c : Written) (least : ℕ) (P : Written → Type 0) → rank c ≤ binding (meant c) → least ≤ rank c
+    → P (as_written (meant c)) → P (in_parentheses least (meant c) (as_written (meant c)))
+no_guard c least P high low h = by (nat_lt (binding (meant c)) least) (grind (arith, nat_tests)) where
+  by : (t : Bool) → t ≡ false → P (cond t (Group (as_written (meant c))) (as_written (meant c)))
+  by true e = absurd (cc)
+  by false e = h
+
 not_guarded : (c : Written) → rank c ≤ binding (meant c) → ((b : ℕ) → Fits b c → Fits b (as_written (meant c))) → Flat c
 not_guarded c high h = record {
   plain = h;
-  guarded = λ least b low fits. by (nat_lt (binding (meant c)) least) (grind (arith, nat_tests)) b (h b fits);
-} where
-  by : (t : Bool) → t ≡ false → (b : ℕ) → Fits b (as_written (meant c)) → Fits b (cond t (Group (as_written (meant c))) (as_written (meant c)))
-  by true e b f = absurd (cc)
-  by false e b f = f
+  guarded = λ least b low fits. no_guard c least (Fits b) high low (h b fits);
+}
 
 grouped : (a : Written) → Flat a → Flat (Group a)
 grouped a h = record {
   plain = λ b fits. h.plain b (fits_less a b fits);
-  guarded = λ least b low fits. by (nat_lt (binding (meant a)) least) b (h.plain (suc b) fits);
-} where
-  by : (t : Bool) (b : ℕ) → Fits (suc b) (as_written (meant a)) → Fits b (cond t (Group (as_written (meant a))) (as_written (meant a)))
-  by true b f = f
-  by false b f = fits_less (as_written (meant a)) b f
+  guarded = λ least b low fits.
+      let inside = h.plain (suc b) fits in
+      cond_holds (Fits b) (nat_lt (binding (meant a)) least) (Group (as_written (meant a))) (as_written (meant a)) inside
+      (fits_less (as_written (meant a)) b inside);
+}
 
 has_bound : (value : Option Bound) (power : Option ℕ) (b : ℕ) → Fits b (Digits value power) → Fits b (as_written (meant (Digits value power)))
 has_bound value power b h = (tt, h.1)
@@ -151,20 +154,15 @@ pub record Lean (c : Written) : Type 0 where
 not_grouped : (c : Written) → rank c ≤ binding (meant c) → groups (as_written (meant c)) ≤ groups c → Lean c
 not_grouped c high h = record {
   plain = h;
-  guarded = λ least low. by (nat_lt (binding (meant c)) least) (grind (arith, nat_tests));
-} where
-  by : (t : Bool) → t ≡ false → groups (cond t (Group (as_written (meant c))) (as_written (meant c))) ≤ groups c
-  by true e = absurd (cc)
-  by false e = h
+  guarded = λ least low. no_guard c least (λ w. groups w ≤ groups c) high low h;
+}
 
 lean_group : (a : Written) → Lean a → Lean (Group a)
 lean_group a h = record {
   plain = omega (arith, h.plain);
-  guarded = λ least low. by (nat_lt (binding (meant a)) least);
-} where
-  by : (t : Bool) → groups (cond t (Group (as_written (meant a))) (as_written (meant a))) ≤ suc (groups a)
-  by true = omega (arith, h.plain)
-  by false = omega (arith, h.plain)
+  guarded = λ least low. cond_holds (λ w. groups w ≤ suc (groups a)) (nat_lt (binding (meant a)) least) (Group (as_written (meant a)))
+      (as_written (meant a)) (omega (arith, h.plain)) (omega (arith, h.plain));
+}
 
 pub prints_lean : (c : Written) → IsGrammatical c → Lean c
 prints_lean (Digits value power) h = not_grouped (Digits value power) (omega arith) (omega arith)

@@ -20,7 +20,7 @@ use Rattle.formula_ast.specs.Tokens.{goes_on_run, literal_len, bound_in, power_o
 use Rattle.formula_ast.specs.Grammar.{Written, Both, Powered, Group, tight, spelling, exponent_spelling}
 use Rattle.formula_ast.specs.Printing.{binding, symbol, guarded, exponent_text, print}
 use Rattle.formula_ast.specs.declared.token.Sign.{Sign}
-use Rattle.formula_ast.specs.declared.token.Sign.TheVariants.{Plus, Minus, Times, Over}
+use Rattle.formula_ast.specs.declared.token.Sign.TheVariants.{Plus, Minus}
 use Rattle.formula_ast.specs.declared.token.Kind.{Kind}
 use Rattle.formula_ast.specs.declared.token.Kind.TheVariants.{Number as NumberToken, Name, Joins, Hat, Open, Close, Glued, Wrong}
 use Rattle.formula_ast.proofs.Printed.{in_parentheses, is_below, as_written}
@@ -162,15 +162,11 @@ exponent_printed (negsuc n) h rest g = ap (λ ks. Joins Minus ∷ ks) (digit_pri
 
 symbol_words : (s : Sign) (rest : List ℕ) → words (symbol s ++ rest) 0 ≡ Joins s ∷ words rest 0
 symbol_words Plus rest = refl
-symbol_words Minus rest = refl
-symbol_words Times rest = refl
-symbol_words Over rest = refl
+symbol_words s rest = refl
 
 symbol_parts : (s : Sign) (rest : List ℕ) → is_glued (symbol s ++ rest) ≡ false
 symbol_parts Plus rest = refl
-symbol_parts Minus rest = refl
-symbol_parts Times rest = refl
-symbol_parts Over rest = refl
+symbol_parts s rest = refl
 
 abbrev PrintsAs : List ℕ → Written → Type 0
 PrintsAs text w = (rest : List ℕ) → is_glued rest ≡ false → words (text ++ rest) 0 ≡ spelling w ++ words rest 0

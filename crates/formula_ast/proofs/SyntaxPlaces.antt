@@ -12,13 +12,14 @@ use Rattle.line_text.specs.Blanks.{is_blank, written_len}
 use Rattle.formula_ast.specs.Tokens.{goes_on_run, with_point, point_len, sign_len, with_letter, exponent_len, literal_len, len_of, kind_of, Token, tokens, kinds, kinds_in}
 use Rattle.formula_ast.specs.Grammar.{GoesOn}
 use Rattle.formula_ast.specs.Machine.{trees, Stage, AtOperand, AtAtom, AtEnd, AtExponent, factor_done, first_stage, step, finish, then_some, stages}
-use Rattle.formula_ast.specs.Reading.{at_end, unless_refused, goes_on, after_glued, syntax_place, refusal, opens_next, node_count, reading, reading_of}
+use Rattle.formula_ast.specs.Reading.{at_end, goes_on, after_glued, syntax_place, refusal, opens_next, node_count, reading, reading_of}
 use Rattle.formula_ast.specs.Rules.{IsFirstWrong}
 use Rattle.formula_ast.specs.declared.fault.FormulaFault.{FormulaFault}
 use Rattle.formula_ast.specs.declared.fault.FormulaFault.TheVariants.{Syntax}
 use Rattle.formula_ast.specs.declared.token.Kind.{Kind}
-use Rattle.formula_ast.specs.declared.token.Kind.TheVariants.{Number, Name, Joins, Hat, Open, Close, Glued, Wrong}
-use Rattle.formula_ast.proofs.Complete.{IsRuled, refusal_ruled}
+use Rattle.formula_ast.specs.declared.token.Kind.TheVariants.{Number, Glued}
+use Rattle.formula_ast.proofs.Complete.{IsRuled, refusal_ruled, not_refused}
+use Rattle.formula_ast.proofs.Steps.{first_step}
 use Rattle.formula_ast.proofs.Stages.{goes_on_by_stages, no_stage_no_text}
 
 -- ---- no byte of a token is a blank
@@ -208,31 +209,21 @@ tokens_end (byte ∷ bytes) zero at end h =
                 ap (λ m. written_len (drop m bytes)) less
 
 -- ---- a refusal at the end of the text
-not_ruled : (fault : FormulaFault) (at : ℕ) (e : Result Tree FormulaFault) → IsRuled fault → unless_refused (Some fault) e ≡ Err (Syntax at) → ⊥
-not_ruled fault at r ruled e =
-    let same : fault ≡ Syntax at = cc in
-    subst IsRuled same ruled
-
 end_at : (o : Option Tree) (end at : ℕ) → at_end o end ≡ Err (Syntax at) → at ≡ end
 end_at None end at h = cc
 end_at (Some f) end at h = absurd (cc)
-
-then_at : (o : Option (Stage Tree)) (place at end : ℕ) (r : Option FormulaFault) (next : Stage Tree → Result Tree FormulaFault)
-    (g : Stage Tree → Option (Stage Tree)) (v : Stage Tree) → IfSome r IsRuled
-    → ((u : Stage Tree) → next u ≡ Err (Syntax at) → g u ≡ Some v → at ≡ end)
-    → goes_on o place r next ≡ Err (Syntax at) → then_some o g ≡ Some v → at ≡ end
-then_at None place at end r next g v ruled all h k = absurd (cc)
-then_at (Some u) place at end None next g v ruled all h k = all u h k
-then_at (Some u) place at end (Some fault) next g v ruled all h k = absurd (not_ruled fault at (next u) ruled h)
 
 reading_end : (ts : List Token) (s : Stage Tree) (n end at : ℕ) (v : Stage Tree) → reading s n end ts ≡ Err (Syntax at)
     → stages trees s (kinds ts) ≡ Some v → at ≡ last_end end ts
 reading_end [] s n end at v h k = end_at (finish trees s) end at h
 reading_end (t ∷ ts) s n end at v h k =
-    then_at (step trees s t.kind) (syntax_place s t.place t.len t.kind) at (last_end (t.place + t.len) ts)
-    (refusal s n t.place t.kind (opens_next ts)) (λ u. reading u (n + node_count s t.kind) (t.place + t.len) ts)
-    (λ u. stages trees u (kinds ts)) v (refusal_ruled s n t.place t.kind (opens_next ts))
-    (λ u a b. reading_end ts u (n + node_count s t.kind) (t.place + t.len) at v a b) h k
+    let refused = refusal s n t.place t.kind (opens_next ts) in
+    let next : Stage Tree → Result Tree FormulaFault = λ u. reading u (n + node_count s t.kind) (t.place + t.len) ts in
+    let first = first_step trees s t.kind (λ u. stages trees u (kinds ts)) v k in
+    let rest = ap (λ o. goes_on o (syntax_place s t.place t.len t.kind) refused next) (sym first.gives) ∙ h in
+    let ruled = refusal_ruled s n t.place t.kind (opens_next ts) in
+    reading_end ts first.stage (n + node_count s t.kind) (t.place + t.len) at v
+    (not_refused refused (Syntax at) (next first.stage) ruled (λ none. none) rest) first.rest
 
 whole_end : (text : List ℕ) → last_end 0 (tokens text 0 0) ≡ written_len text
 whole_end text = tokens_end text 0 0 0 (omega arith) ∙ from_start (written_len text) where
@@ -274,8 +265,8 @@ then_wrong None s t ts at r next e ruled all h k = record {
   stops = e;
   place = cc;
 }
-then_wrong (Some v) s t ts at None next e ruled all h k =
-    let w = all v h k in
+then_wrong (Some v) s t ts at r next e ruled all h k =
+    let w = all v (not_refused r (Syntax at) (next v) ruled (λ none. none) h) k in
     record {
       before = t ∷ w.before;
       token = w.token;
@@ -286,7 +277,6 @@ then_wrong (Some v) s t ts at None next e ruled all h k =
       stops = w.stops;
       place = w.place;
     }
-then_wrong (Some v) s t ts at (Some fault) next e ruled all h k = absurd (not_ruled fault at (next v) ruled h)
 
 reading_wrong : (ts : List Token) (s : Stage Tree) (n end at : ℕ) → reading s n end ts ≡ Err (Syntax at)
     → stages trees s (kinds ts) ≡ None → WrongToken s ts at
@@ -295,11 +285,6 @@ reading_wrong (t ∷ ts) s n end at h k =
     then_wrong (step trees s t.kind) s t ts at (refusal s n t.place t.kind (opens_next ts))
     (λ u. reading u (n + node_count s t.kind) (t.place + t.len) ts) refl (refusal_ruled s n t.place t.kind (opens_next ts))
     (λ u a b. reading_wrong ts u (n + node_count s t.kind) (t.place + t.len) at a b) h k
-
-then_last : (o : Option (Stage Tree)) (g : Stage Tree → Option (Stage Tree)) (v : Stage Tree) (f : Stage Tree → Option (Stage Tree)) (y : Option (Stage Tree))
-    → ((u : Stage Tree) → g u ≡ Some v → f u ≡ y) → then_some o g ≡ Some v → then_some o f ≡ y
-then_last None g v f y all h = absurd (cc)
-then_last (Some u) g v f y all h = all u h
 
 -- one token more
 stages_last : (ks : List Kind) (s v : Stage Tree) (k : Kind) → stages trees s ks ≡ Some v → stages trees s (ks ++ k ∷ []) ≡ step trees v k
@@ -310,7 +295,8 @@ stages_last [] s v k h =
       whole None = refl
       whole (Some t) = refl
 stages_last (j ∷ ks) s v k h =
-    then_last (step trees s j) (λ t. stages trees t ks) v (λ t. stages trees t (ks ++ k ∷ [])) (step trees v k) (λ u e. stages_last ks u v k e) h
+    let first = first_step trees s j (λ t. stages trees t ks) v h in
+    ap (λ o. then_some o (λ t. stages trees t (ks ++ k ∷ []))) first.gives ∙ stages_last ks first.stage v k first.rest
 
 kinds_last : (ts : List Token) (t : Token) → kinds (ts ++ t ∷ []) ≡ kinds ts ++ t.kind ∷ []
 kinds_last [] t = refl
@@ -319,27 +305,19 @@ kinds_last (u ∷ ts) t = ap (λ ks. u.kind ∷ ks) (kinds_last ts t)
 glued_place : (s : Stage Tree) (place len : ℕ) (k : Kind) → k ≡ Glued → (step trees s (Number None None) ≡ None → ⊥)
     → syntax_place s place len k ≡ place + len
 glued_place (AtOperand l o) place len k e h = ap (λ j. place + after_glued j len) e
-glued_place (AtAtom l x o) place len k e h = absurd (h refl)
-glued_place (AtEnd b left x o) place len k e h = absurd (h refl)
 glued_place (AtExponent l x minus o) place len k e h = ap (λ j. place + after_glued j len) e
+glued_place s place len k e h = absurd (h refl)
 
 not_glued : (place len : ℕ) (k : Kind) → (k ≡ Glued → ⊥) → place + after_glued k len ≡ place
 not_glued place len Glued h = absurd (h refl)
-not_glued place len (Number value power) h = omega arith
-not_glued place len (Name name) h = omega arith
-not_glued place len (Joins s) h = omega arith
-not_glued place len Hat h = omega arith
-not_glued place len Open h = omega arith
-not_glued place len Close h = omega arith
-not_glued place len Wrong h = omega arith
+not_glued place len k h = omega arith
 
 other_place : (s : Stage Tree) (place len : ℕ) (k : Kind) → (k ≡ Glued → (v : Stage Tree) → step trees s (Number None None) ≡ Some v → ⊥)
     → syntax_place s place len k ≡ place
 other_place (AtOperand l o) place len k h = not_glued place len k (λ e. h e (AtAtom l (trees.number None None) o) refl)
-other_place (AtAtom l x o) place len k h = refl
-other_place (AtEnd b left x o) place len k h = refl
 other_place (AtExponent l x minus o) place len k h =
     not_glued place len k (λ e. h e (AtEnd l.base l.added (factor_done trees l (trees.raised x minus None None)) o) refl)
+other_place s place len k h = refl
 
 -- elsewhere it is that of the first token with which no text of the grammar goes on
 pub syntax_at_token : (text : List ℕ) (at : ℕ) → reading_of text ≡ Err (Syntax at) → (GoesOn (kinds_in text) → ⊥) → IsFirstWrong text at
