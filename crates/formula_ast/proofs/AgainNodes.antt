@@ -78,10 +78,10 @@ run_counted (k ∷ ks) s f h =
     omega (arith, counted first.is, run_counted ks first.stage f first.rest)
 
 -- ---- what is not refused
-record Unrefused (s : Stage Tree) (n at : ℕ) (k : Kind) (opens : Bool) : Type 0 where
-  word : word_fault s at k opens ≡ None
-  deep : is_too_deep s k ≡ false
-  many : (is_node s k && nat_le most_nodes n) ≡ false
+pub record Unrefused (s : Stage Tree) (n at : ℕ) (k : Kind) (opens : Bool) : Type 0 where
+  pub word : word_fault s at k opens ≡ None
+  pub deep : is_too_deep s k ≡ false
+  pub many : (is_node s k && nat_le most_nodes n) ≡ false
 
 parts_of : (word : Option FormulaFault) (deep many : Bool) (at : ℕ)
     → or_else word (cond deep (Some (TooDeep at)) (cond many (Some (TooMany at)) None)) ≡ None
@@ -91,7 +91,7 @@ parts_of None true many at h = absurd (cc)
 parts_of None false true at h = absurd (cc)
 parts_of None false false at h = (refl, (refl, refl))
 
-unrefused : (s : Stage Tree) (n at : ℕ) (k : Kind) (opens : Bool) → refusal s n at k opens ≡ None → Unrefused s n at k opens
+pub unrefused : (s : Stage Tree) (n at : ℕ) (k : Kind) (opens : Bool) → refusal s n at k opens ≡ None → Unrefused s n at k opens
 unrefused s n at k opens h =
     let parts = parts_of (word_fault s at k opens) (is_too_deep s k) (is_node s k && nat_le most_nodes n) at h in
     record { word = parts.0; deep = parts.1.0; many = parts.1.1 }
@@ -99,7 +99,7 @@ unrefused s n at k opens h =
 refused_none : (s : Stage Tree) (n at : ℕ) (k : Kind) (opens : Bool) → Unrefused s n at k opens → refusal s n at k opens ≡ None
 refused_none s n at k opens h = rw (h.word, h.deep, h.many) refl
 
-few_more : (t : Bool) (n : ℕ) → n ≤ most_nodes → (t && nat_le most_nodes n) ≡ false → n + cond t 1 0 ≤ most_nodes
+pub few_more : (t : Bool) (n : ℕ) → n ≤ most_nodes → (t && nat_le most_nodes n) ≡ false → n + cond t 1 0 ≤ most_nodes
 few_more true n h e = grind (arith, nat_tests)
 few_more false n h e = omega arith
 

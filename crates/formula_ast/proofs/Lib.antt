@@ -23,3 +23,7 @@ pub mod LongestLiterals
 pub mod NoMemory
 pub mod MovedPlaces
 pub mod FaultPlaces
+pub mod WrittenDepths
+pub mod TokensRead
+pub mod BrokenRules
+pub mod Refusals

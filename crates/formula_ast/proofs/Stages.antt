@@ -54,7 +54,7 @@ module _ {A : Type 0} (m : Parts A) where
       ends_after (Number None None) (AtExponent l x minus o) (AtEnd l.base l.added y o) refl (ends_at_end o l.base l.added y)
 
   -- tokens with a stage after them, and those after it
-  stages_run : (ks : List Kind) (s t : Stage A) (more : List Kind) → stages m s ks ≡ Some t → run m s (ks ++ more) ≡ run m t more
+  pub stages_run : (ks : List Kind) (s t : Stage A) (more : List Kind) → stages m s ks ≡ Some t → run m s (ks ++ more) ≡ run m t more
   stages_run [] s t more h = let same : s ≡ t = cc in cc
   stages_run (k ∷ ks) s t more h =
       let first = first_step m s k (λ v. stages m v ks) t h in

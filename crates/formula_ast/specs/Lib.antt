@@ -9,6 +9,7 @@ pub mod Printing
 pub mod Views
 pub mod Rules
 pub mod FaultPlaces
+pub mod Refusals
 pub mod FirstTokens
 pub mod States
 pub mod NewNames

@@ -1,19 +1,21 @@
 //! What holds of the grammar, the reading and the printed text together. Each function has an empty
 //! body, and its clauses are a theorem on the definitions.
 
-ghost use Rattle.std.specs.Prelude.{◌≡◌, ◌≢◌, ◌↔◌, ℕ, ◌≤◌, true, pos, negsuc, List, ◌∷◌, length, take, Some, None, IsSome, Ok, Err, codes, count_by, replicate};
+ghost use Rattle.std.specs.Prelude.{◌≡◌, ◌≢◌, ◌↔◌, ℕ, ◌≤◌, ◌⊎◌, true, pos, negsuc, List, ◌∷◌, length, take, Some, None, IsSome, Ok, Err, codes, count_by, replicate};
 ghost use Rattle.std.specs.Char.{is_ascii_digit};
 ghost use Rattle.line_text.specs.Blanks.{written_len};
 ghost use Rattle.decimal18.specs.Literal.{literal_of};
 ghost use Rattle.decimal18.specs.Bound.{scaled};
 ghost use Rattle.decimal18.specs.declared.literal.NumFault.TheVariants.{NumberRange};
-ghost use Rattle.formula_ast.specs.Trees.{Tree, HasExponents, Number as Literal, Variable, Opposite, Joined, Raised};
+ghost use Rattle.formula_ast.specs.Trees.{Tree, nodes, HasExponents, Number as Literal, Variable, Opposite, Joined, Raised};
 ghost use Rattle.formula_ast.specs.Tokens.{literal_len, kinds_in};
 ghost use Rattle.formula_ast.specs.Grammar.{Written, IsGrammatical, spelling, Spells, SpellsText, GoesOn};
 ghost use Rattle.formula_ast.specs.Machine.{Stage, stages, trees, first_stage};
 ghost use Rattle.formula_ast.specs.Reading.{is_open, reading_of};
 ghost use Rattle.formula_ast.specs.Printing.{print};
 ghost use Rattle.formula_ast.specs.Rules.{IsReadOrRuled, IsFormula, IsFirstWrong};
+ghost use Rattle.formula_ast.specs.Refusals.{nodes_in, IsFirstBroken, IsSyntax};
+ghost use Rattle.formula_ast.specs.declared.fault.FormulaFault.{FormulaFault};
 ghost use Rattle.formula_ast.specs.declared.fault.FormulaFault.TheVariants.{Syntax, UnknownFunction, Number, BadPower, TooDeep, OutOfMemory};
 ghost use Rattle.formula_ast.specs.declared.token.Kind.{Kind};
 ghost use Rattle.formula_ast.specs.declared.token.Sign.TheVariants.{Plus, Minus, Times, Over};
@@ -54,6 +56,15 @@ pub fn what_spells_within_limits_is_read()
 pub fn syntax_is_placed_at_the_first_wrong_token()
     ensures end { (text : List ℕ) (at : ℕ) → reading_of text ≡ Err (Syntax at) → GoesOn (kinds_in text) → at ≡ written_len text }
     ensures token { (text : List ℕ) (at : ℕ) → reading_of text ≡ Err (Syntax at) → (GoesOn (kinds_in text) → ⊥) → IsFirstWrong text at }
+{}
+
+/// A refusal beyond the grammar is that of the first token that breaks a rule, and comes exactly there. Where
+/// that token breaks two, it is that of the rule that comes first. `counted`: the nodes of tokens, by which
+/// one of the rules goes, are those of the formula that they spell.
+pub fn refusals_are_of_the_first_broken_rule()
+    ensures refused { (text : List ℕ) (fault : FormulaFault) → reading_of text ≡ Err fault → IsSyntax fault ⊎ IsFirstBroken text fault }
+    ensures comes { (text : List ℕ) (fault : FormulaFault) → IsFirstBroken text fault → reading_of text ≡ Err fault }
+    ensures counted { (ks : List Kind) (f : Tree) → Spells ks f → nodes_in ks ≡ nodes f }
 {}
 
 /// Each exponent of what was read is from -9 to 9 and not 0.

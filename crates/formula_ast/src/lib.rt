@@ -22,9 +22,9 @@ pub use fault::FormulaFault;
 pub use formula::Formula;
 pub use laws::{
     number_tokens_are_longest_literals, printed_text_is_read_again, reading_is_never_out_of_memory,
-    reading_is_the_grammars, stages_are_the_prefixes_of_the_grammar,
-    syntax_is_placed_at_the_first_wrong_token, what_is_read_has_exponents,
-    what_spells_within_limits_is_read, worked_formulas,
+    reading_is_the_grammars, refusals_are_of_the_first_broken_rule,
+    stages_are_the_prefixes_of_the_grammar, syntax_is_placed_at_the_first_wrong_token,
+    what_is_read_has_exponents, what_spells_within_limits_is_read, worked_formulas,
 };
 pub use name::{Name, is_plain_name};
 pub use name_list::NameList;

@@ -1,13 +1,14 @@
 //! Worked formulas, as laws of the definitions: each reads off what is written for it.
 
-ghost use Rattle.std.specs.Prelude.{◌≡◌, ℤ, pos, negsuc, codes, Result, Ok, Err};
+ghost use Rattle.std.specs.Prelude.{◌≡◌, ℤ, pos, negsuc, codes, replicate, Result, Ok, Err};
+ghost use Rattle.std.specs.List.{concat};
 ghost use Rattle.decimal18.specs.Bound.{scaled};
 ghost use Rattle.decimal18.specs.declared.literal.NumFault.TheVariants.{NumberRange};
 ghost use Rattle.formula_ast.specs.Trees.{Tree, Number as Literal, Variable, Opposite, Joined, Raised};
 ghost use Rattle.formula_ast.specs.Reading.{reading_of};
 ghost use Rattle.formula_ast.specs.Printing.{print};
 ghost use Rattle.formula_ast.specs.declared.token.Sign.TheVariants.{Plus, Minus, Times, Over};
-ghost use Rattle.formula_ast.specs.declared.fault.FormulaFault.TheVariants.{Syntax, UnknownFunction, Number, BadPower};
+ghost use Rattle.formula_ast.specs.declared.fault.FormulaFault.TheVariants.{Syntax, UnknownFunction, Number, BadPower, TooDeep, TooMany};
 
 /// Texts that are formulas, and what they mean.
 pub fn worked_readings()
@@ -43,6 +44,8 @@ pub fn worked_refusals()
     ensures function { reading_of (codes "sin(1)") ≡ Err (UnknownFunction 0) }
     ensures power { reading_of (codes "2^0") ≡ Err (BadPower 2) }
     ensures glued { reading_of (codes "2 + 3x") ≡ Err (Syntax 5) }
+    ensures deep { reading_of (replicate 65 45) ≡ Err (TooDeep 64) }
+    ensures many { reading_of (concat (replicate 129 (codes "a+"))) ≡ Err (TooMany 256) }
     ensures range { reading_of (codes "1e999") ≡ Err (Number NumberRange 0) }
     ensures empty { reading_of (codes "") ≡ Err (Syntax 0) }
     ensures blanks_at_the_end { reading_of (codes " 1 +  ") ≡ Err (Syntax 4) }

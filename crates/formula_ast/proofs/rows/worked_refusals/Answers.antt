@@ -30,3 +30,11 @@ returns-clause-blanks_at_the_end c = refl
 pub returns-clause-two_points : goal.returns-clause-two_points
 unfolding reading_of parsed
 returns-clause-two_points c = refl
+
+pub returns-clause-deep : goal.returns-clause-deep
+unfolding reading_of parsed
+returns-clause-deep c = refl
+
+pub returns-clause-many : goal.returns-clause-many
+unfolding reading_of parsed
+returns-clause-many c = refl
