@@ -1,5 +1,5 @@
-use line_text::OutOfMemory;
 use formula_ast::Name;
+use line_text::OutOfMemory;
 use sheet_rows::RowFault;
 
 /// Why there is no step back or forward.

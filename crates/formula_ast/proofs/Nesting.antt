@@ -128,10 +128,6 @@ fits_next at opens (TakesExponent l x minus o value (Some n)) h based e d =
     (factor_fits l (Powered x minus value (Some n)) h.1.0.1 (h.0, tt), (h.1.0.0, h.1.1))
 fits_next at opens s h based e d = h
 
-pub step_fits : (w : Stage Written) (k : Kind) (at : ℕ) (opens : Bool) → FitsStage w → StageBased w
-    → word_fault w at k opens ≡ None → is_too_deep w k ≡ false → IfSome (step writings w k) FitsStage
-step_fits w k at opens h based e d = each_step writings w k (λ v s. fits_next at opens s h based e d)
-
 pub finish_fits : (w : Stage Written) → FitsStage w → StageBased w → IfSome (finish writings w) (Fits 0)
 finish_fits (AtAtom l x []) h based =
     subst (λ d. Fits d (put writings l.added (factor_done writings l x))) based
@@ -174,10 +170,6 @@ pub deep_passed : {w v : Stage Written} {k : Kind} → IsStep writings w k v →
 deep_passed (TakesMinus l o) h = not_too_deep (l.base + l.minuses) (omega (arith, h.0))
 deep_passed (Opens l o) h = not_too_deep (l.base + l.minuses) (omega (arith, h.0))
 deep_passed s h = refl
-
-pub step_passed : (w : Stage Written) (k : Kind) → StageBased w → IfSome (step writings w k) (λ v. FitsStage v → Passed w k)
-step_passed w k based =
-    each_step writings w k (λ v s h. record { fits = fits_before s based h; word = word_passed s h; deep = deep_passed s h })
 
 finish_parts : (w : Stage Written) → StageBased w → IfSome (finish writings w) (λ c. Fits 0 c → FitsStage w)
 finish_parts (AtAtom l x []) based = λ h.

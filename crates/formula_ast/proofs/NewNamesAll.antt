@@ -4,6 +4,7 @@ use Rattle.std.specs.Prelude.{bytes_eq, filter, not}
 use Rattle.std.proofs.lemmas.List.{append-nil}
 use Rattle.std.proofs.lemmas.List.Elements.{filter_agree}
 use Rattle.std.proofs.lemmas.Slice.Eq.{bytes_eq-Decides}
+use Rattle.std.proofs.Math.Bool.{or-false}
 use Rattle.formula_ast.specs.Trees.{Tree, distinct, uses, names_of}
 use Rattle.formula_ast.specs.NewNames.{has, with_new, with_all_new}
 
@@ -45,12 +46,8 @@ or_swapped true false = refl
 or_swapped false true = refl
 or_swapped false false = refl
 
-or_false : (b : Bool) → (b || false) ≡ b
-or_false true = refl
-or_false false = refl
-
 has_more : (names : List (List ℕ)) (n m : List ℕ) → has (names ++ n ∷ []) m ≡ (has names m || bytes_eq n m)
-has_more [] n m = or_false (bytes_eq n m)
+has_more [] n m = or-false (bytes_eq n m)
 has_more (x ∷ xs) n m = ap (λ b. bytes_eq x m || b) (has_more xs n m) ∙ or_more (bytes_eq x m) (has xs m) (bytes_eq n m)
 
 -- new to a list with n at its end

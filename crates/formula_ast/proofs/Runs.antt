@@ -3,7 +3,7 @@ use Rattle.std.specs.Prelude.{◌≡◌, ℕ, zero, suc, true, false, List, [], 
 use Rattle.std.proofs.Common.{ap, ◌∙◌}
 use Rattle.formula_ast.specs.Trees.{Tree}
 use Rattle.formula_ast.specs.Grammar.{Written, Minused, meant}
-use Rattle.formula_ast.specs.Machine.{trees, writings, Waiting, Stage, AtOperand, AtAtom, AtEnd, AtExponent, put, negated, factor_done, adding, after, step, finish, then_some, run}
+use Rattle.formula_ast.specs.Machine.{trees, writings, Waiting, Stage, AtOperand, AtAtom, AtEnd, AtExponent, put, negated, factor_done, adding, after, step, finish, then_some, stages, run}
 use Rattle.formula_ast.specs.declared.token.Sign.{Sign}
 use Rattle.formula_ast.specs.declared.token.Sign.TheVariants.{Plus, Minus}
 use Rattle.formula_ast.specs.declared.token.Kind.{Kind}
@@ -71,15 +71,21 @@ finish_meant (AtEnd b left x []) = ap Some (put_meant left x)
 finish_meant w = refl
 
 -- ---- whole runs
-then_meant : (o : Option (Stage Written)) (g : Stage Tree → Option Tree) (h : Stage Written → Option Written)
-    → ((v : Stage Written) → g (stage_meant v) ≡ option_map meant (h v))
-    → then_some (option_map stage_meant o) g ≡ option_map meant (then_some o h)
-then_meant None g h e = refl
-then_meant (Some v) g h e = e v
+then_meant : {A B : Type 0} (view : A → B) (o : Option (Stage Written)) (g : Stage Tree → Option B) (h : Stage Written → Option A)
+    → ((v : Stage Written) → g (stage_meant v) ≡ option_map view (h v))
+    → then_some (option_map stage_meant o) g ≡ option_map view (then_some o h)
+then_meant view None g h e = refl
+then_meant view (Some v) g h e = e v
 
 -- what is read over trees is what the writing means
 pub run_meant : (ks : List Kind) (w : Stage Written) → run trees (stage_meant w) ks ≡ option_map meant (run writings w ks)
 run_meant [] w = finish_meant w
 run_meant (k ∷ ks) w =
     ap (λ o. then_some o (λ t. run trees t ks)) (step_meant w k)
-    ∙ then_meant (step writings w k) (λ t. run trees t ks) (λ t. run writings t ks) (λ v. run_meant ks v)
+    ∙ then_meant meant (step writings w k) (λ t. run trees t ks) (λ t. run writings t ks) (λ v. run_meant ks v)
+
+pub stages_meant : (ks : List Kind) (w : Stage Written) → stages trees (stage_meant w) ks ≡ option_map stage_meant (stages writings w ks)
+stages_meant [] w = refl
+stages_meant (k ∷ ks) w =
+    ap (λ o. then_some o (λ t. stages trees t ks)) (step_meant w k)
+    ∙ then_meant stage_meant (step writings w k) (λ t. stages trees t ks) (λ t. stages writings t ks) (λ v. stages_meant ks v)

@@ -4,7 +4,7 @@ use Rattle.line_text.specs.Words.{Word, words_from, written_part}
 use Rattle.sheet_rows.specs.Rows.{Row}
 use Rattle.sheet_rows.specs.Regular.{IsRegular}
 use Rattle.sheet_rows.specs.Reading.{Read as ReadRow, row_at}
-use Rattle.sheet_rows.proofs.RegularRows.{row_regular}
+use Rattle.sheet_rows.proofs.RegularRows.{row_regular, any_ok}
 use Rattle.answers.specs.Commands.{IsRegularCommand, Add, Set, Remove, Change, Undo, Redo, Mark, Restore, Ask, AskAt}
 use Rattle.script_lines.specs.declared.item.Item.{Item}
 use Rattle.script_lines.specs.declared.item.Item.TheVariants.{Line, LongLine}
@@ -16,10 +16,6 @@ mapped_holds : {A B : Type 0} (r : Read A) (make : A → B) (P : A → Type 0) (
 mapped_holds (Ok x) make P Q h k = k x h
 mapped_holds (Err fault) make P Q h k = tt
 
-anything : {A : Type 0} (r : Read A) → IfOk r (λ x. Unit {0})
-anything (Ok x) = tt
-anything (Err fault) = tt
-
 row_holds : (r : ReadRow Row) → IfOk r IsRegular → IfOk (row_of_line r) IsRegular
 row_holds (Ok row) h = h
 row_holds (Err fault) h = tt
@@ -27,13 +23,13 @@ row_holds (Err fault) h = tt
 command_regular : (verb : Verb) (text : List ℕ) (w : Word) (ws : List Word) → IfOk (command_with verb text w ws) IsRegularCommand
 command_regular SetVerb text w ws =
     mapped_holds (row_of_line (row_at text ws)) (λ row. Change (Set row)) IsRegular IsRegularCommand (row_holds _ (row_regular text ws)) (λ row h. h)
-command_regular RemoveVerb text w ws = mapped_holds (sole_name (length text) ws) (λ name. Change (Remove name)) (λ x. Unit {0}) IsRegularCommand (anything _) (λ x h. h)
-command_regular UndoVerb text w ws = mapped_holds (no_more ws) (λ done. Undo) (λ x. Unit {0}) IsRegularCommand (anything _) (λ x h. h)
-command_regular RedoVerb text w ws = mapped_holds (no_more ws) (λ done. Redo) (λ x. Unit {0}) IsRegularCommand (anything _) (λ x h. h)
-command_regular MarkVerb text w ws = mapped_holds (sole_name (length text) ws) Mark (λ x. Unit {0}) IsRegularCommand (anything _) (λ x h. h)
-command_regular RestoreVerb text w ws = mapped_holds (sole_name (length text) ws) Restore (λ x. Unit {0}) IsRegularCommand (anything _) (λ x h. h)
-command_regular AtVerb text w ws = mapped_holds (query_at (length text) ws) (λ asked. AskAt asked.0 asked.1) (λ x. Unit {0}) IsRegularCommand (anything _) (λ x h. h)
-command_regular AskVerb text w ws = mapped_holds (query_with (length text) w ws) Ask (λ x. Unit {0}) IsRegularCommand (anything _) (λ x h. h)
+command_regular RemoveVerb text w ws = mapped_holds (sole_name (length text) ws) (λ name. Change (Remove name)) (λ x. Unit {0}) IsRegularCommand (any_ok _) (λ x h. h)
+command_regular UndoVerb text w ws = mapped_holds (no_more ws) (λ done. Undo) (λ x. Unit {0}) IsRegularCommand (any_ok _) (λ x h. h)
+command_regular RedoVerb text w ws = mapped_holds (no_more ws) (λ done. Redo) (λ x. Unit {0}) IsRegularCommand (any_ok _) (λ x h. h)
+command_regular MarkVerb text w ws = mapped_holds (sole_name (length text) ws) Mark (λ x. Unit {0}) IsRegularCommand (any_ok _) (λ x h. h)
+command_regular RestoreVerb text w ws = mapped_holds (sole_name (length text) ws) Restore (λ x. Unit {0}) IsRegularCommand (any_ok _) (λ x h. h)
+command_regular AtVerb text w ws = mapped_holds (query_at (length text) ws) (λ asked. AskAt asked.0 asked.1) (λ x. Unit {0}) IsRegularCommand (any_ok _) (λ x h. h)
+command_regular AskVerb text w ws = mapped_holds (query_with (length text) w ws) Ask (λ x. Unit {0}) IsRegularCommand (any_ok _) (λ x h. h)
 command_regular RowVerb text w ws =
     mapped_holds (row_of_line (row_at text (w ∷ ws))) (λ row. Change (Add row)) IsRegular IsRegularCommand (row_holds _ (row_regular text (w ∷ ws))) (λ row h. h)
 

@@ -79,7 +79,7 @@ checked_ok : (r : Result Unit ShapeFault) → IfOk (shape_checked r) (λ done. r
 checked_ok (Ok done) = refl
 checked_ok (Err fault) = tt
 
-any_ok : {A : Type 0} (r : Read A) → IfOk r (λ x. Unit {0})
+pub any_ok : {A E : Type 0} (r : Result A E) → IfOk r (λ x. Unit {0})
 any_ok (Ok x) = tt
 any_ok (Err fault) = tt
 

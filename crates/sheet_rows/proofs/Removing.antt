@@ -7,9 +7,10 @@ use Rattle.sheet_rows.specs.Rows.{Row, Sheet, name_of, used_names}
 use Rattle.sheet_rows.specs.declared.edit_fault.EditFault.TheVariants.{InUse}
 use Rattle.sheet_rows.specs.Sheets.{IsWellFormed, IsAccepted, is_named, is_among, has_row, is_quantity_in, are_known, are_named_once, are_earlier, rows_without, removed, unless, verdict_remove}
 use Rattle.sheet_rows.specs.Places.{place_of}
+use Rattle.std.proofs.Math.Bool.{or-false}
 use Rattle.sheet_rows.proofs.Positions.{position-any}
 use Rattle.sheet_rows.proofs.Conditions.{err_ok, ok_same, unless_ok, and_left, and_right, and_both, or_left, or_right, not_true, none_of, other_way}
-use Rattle.sheet_rows.proofs.Verdicts.{same_name, or_false, quantity_is_row, quantity_append, first_user, missing_find, there_at, remove_by_users, remove_unknown}
+use Rattle.sheet_rows.proofs.Verdicts.{same_name, quantity_is_row, quantity_append, first_user, missing_find, there_at, remove_by_users, remove_unknown}
 
 module _ (n : List ℕ) where
   -- the row uses the name
@@ -90,7 +91,7 @@ module _ (n : List ℕ) where
 
   agree_without : (a : List Row) (r : Row) → n ≡ name_of r → Agree (a ++ r ∷ []) a
   agree_without a r e u f =
-      quantity_append a (r ∷ []) u ∙ ap (λ t. is_quantity_in a u || (t || false)) (ap (bytes_eq u) (sym e) ∙ f) ∙ or_false (is_quantity_in a u)
+      quantity_append a (r ∷ []) u ∙ ap (λ t. is_quantity_in a u || (t || false)) (ap (bytes_eq u) (sym e) ∙ f) ∙ or-false (is_quantity_in a u)
 
   -- ---- no row uses the name
   known_rest : (sheet rest : List Row) → list_any is_user rest ≡ false → list_all (are_known sheet) rest ≡ true → list_all (are_known (rows_without n sheet)) rest ≡ true

@@ -11,6 +11,8 @@ use Rattle.sheet_rows.specs.declared.edit_fault.EditFault.TheVariants.{RowsFull,
 use Rattle.sheet_rows.specs.Rows.{Row, Sheet, name_of, used_names, names_used, quantities_of}
 use Rattle.sheet_rows.specs.Sheets.{Verdict, is_named, is_among, has_row, quantities_in, is_quantity_in, has_quantity, are_known, row_limit, added, rows_with, set_row, rows_without, removed, rows_before, unless, unless_uses_fail, verdict_add, verdict_set, verdict_on_set, is_left_without, is_user_of, verdict_remove, verdict_on_removal}
 use Rattle.sheet_rows.specs.Places.{place_of, is_known_with, stands_before}
+use Rattle.std.proofs.Math.Bool.{or-false}
+use Rattle.sheet_rows.proofs.Conditions.{and_left, and_right, or_left, or_right}
 use Rattle.sheet_rows.proofs.Positions.{position-any, before-any, IsFirstAt, first_at, within, find_agree, find_distinct}
 
 -- ---- names
@@ -19,18 +21,6 @@ same_name n m h = (bytes_eq-Decides n m).0 h
 
 pub named_itself : (n : List ℕ) → bytes_eq n n ≡ true
 named_itself n = (bytes_eq-Decides n n).1 refl
-
-pub or_false : (b : Bool) → (b || false) ≡ b
-or_false true = refl
-or_false false = refl
-
-or_left : (a b : Bool) → (a || b) ≡ false → a ≡ false
-or_left true b h = h
-or_left false b h = refl
-
-or_right : (a b : Bool) → (a || b) ≡ false → b ≡ false
-or_right true b h = absurd (true≢false h)
-or_right false b h = h
 
 -- ---- quantities
 quantities_append : (xs ys : List Row) → quantities_in (xs ++ ys) ≡ quantities_in xs ++ quantities_in ys
@@ -56,7 +46,7 @@ abbrev pub with_last : List Row → Row → List Row
 with_last xs row = xs ++ row ∷ []
 
 pub added_has : (sheet : List Row) (row : Row) (n : List ℕ) → is_among (with_last sheet row) n ≡ (is_among sheet n || bytes_eq n (name_of row))
-added_has sheet row n = list_any-append (is_named n) sheet (row ∷ []) ∙ ap (λ b. is_among sheet n || b) (or_false (bytes_eq n (name_of row)))
+added_has sheet row n = list_any-append (is_named n) sheet (row ∷ []) ∙ ap (λ b. is_among sheet n || b) (or-false (bytes_eq n (name_of row)))
 
 added_known : (sheet : Sheet) (row : Row) (n : List ℕ) → has_quantity (added sheet row) n ≡ is_known_with sheet (name_of row) n
 added_known sheet row n = quantity_is_row (with_last sheet.rows row) n ∙ added_has sheet.rows row n ∙ sym (known_is sheet (name_of row) n)
@@ -109,7 +99,7 @@ pub set_quantity : (sheet : List Row) (row : Row) (n : List ℕ) → is_quantity
 set_quantity sheet row n = quantity_is_row (rows_with row sheet) n ∙ set_has sheet row n ∙ sym (quantity_is_row sheet n)
 
 own_known : (sheet : List Row) (own n : List ℕ) (t : Bool) → bytes_eq n own ≡ t → is_among sheet own ≡ true → (is_among sheet n || t) ≡ is_among sheet n
-own_known sheet own n false e h = or_false (is_among sheet n)
+own_known sheet own n false e h = or-false (is_among sheet n)
 own_known sheet own n true e h =
     let there : is_among sheet n ≡ true = ap (is_among sheet) (same_name n own e) ∙ h in
     ap (λ b. b || true) there ∙ sym there
@@ -135,14 +125,6 @@ set_stands sheet row at h n = ap (λ rows. is_quantity_in rows n) (before_set sh
 pub list_all_agree : (p q : List ℕ → Bool) → ((n : List ℕ) → p n ≡ q n) → (ns : List (List ℕ)) → list_all p ns ≡ list_all q ns
 list_all_agree p q h [] = refl
 list_all_agree p q h (n ∷ ns) = λ j. h n j && list_all_agree p q h ns j
-
-and_left : (a b : Bool) → (a && b) ≡ true → a ≡ true
-and_left true b h = refl
-and_left false b h = absurd (true≢false (sym h))
-
-and_right : (a b : Bool) → (a && b) ≡ true → b ≡ true
-and_right true b h = h
-and_right false b h = absurd (true≢false (sym h))
 
 and_none : (a : Bool) → (a && false) ≡ false
 and_none true = refl
@@ -192,7 +174,7 @@ set_by_uses sheet row at known place =
 
 -- ---- the row removed
 used_by_name : (n : List ℕ) (row : Row) → n ≡ name_of row → (other : Row) → is_user_of row other ≡ list_any (bytes_eq n) (used_names other)
-used_by_name n row e other = or_false (list_any (bytes_eq (name_of row)) (used_names other)) ∙ ap (λ m. list_any (bytes_eq m) (used_names other)) (sym e)
+used_by_name n row e other = or-false (list_any (bytes_eq (name_of row)) (used_names other)) ∙ ap (λ m. list_any (bytes_eq m) (used_names other)) (sym e)
 
 -- the first row that uses the name
 abbrev pub first_user : Sheet → List ℕ → Option (List ℕ)
