@@ -1,46 +1,32 @@
 -- What the calls of a session answer, as replies of the machine.
-use Rattle.std.specs.Prelude.{◌≡◌, Bool, true, false, not, IsTrue, Option, None, Some, Result, Ok, Err}
+use Rattle.std.specs.Prelude.{◌≡◌, Bool, true, false, not, IsTrue, Option, None, Some, Result}
+use Rattle.line_text.specs.Memory.{IsReplyTo}
 use Rattle.sheet_rows.specs.declared.edit_fault.EditFault.{EditFault}
-use Rattle.sheet_rows.specs.declared.edit_fault.EditFault.TheVariants.{RowsFull, Duplicate, Unknown, NotEarlier, InUse, OutOfMemory as NoMemoryToEdit}
+use Rattle.sheet_rows.specs.declared.edit_fault.EditFault.TheVariants.{OutOfMemory as NoMemoryToEdit}
 use Rattle.answers.specs.Commands.{Command, Change, Undo, Redo, Mark as MarkPresent, Restore, Ask as AskPresent, AskAt}
 use Rattle.answers.specs.declared.fault.AskFault.{AskFault}
-use Rattle.answers.specs.declared.fault.AskFault.TheVariants.{NoMark as NothingAsked, NoSuchResult, OutOfMemory as NoMemoryToAsk}
+use Rattle.answers.specs.declared.fault.AskFault.TheVariants.{OutOfMemory as NoMemoryToAsk}
 use Rattle.answers.specs.declared.fault.HistoryFault.{HistoryFault}
-use Rattle.answers.specs.declared.fault.HistoryFault.TheVariants.{NothingToUndo, NothingToRedo, OutOfMemory as NoMemoryToStep}
+use Rattle.answers.specs.declared.fault.HistoryFault.TheVariants.{OutOfMemory as NoMemoryToStep}
 use Rattle.answers.specs.declared.fault.MarkFault.{MarkFault}
-use Rattle.answers.specs.declared.fault.MarkFault.TheVariants.{MarksFull, NoMark, OutOfMemory as NoMemoryToMark}
+use Rattle.answers.specs.declared.fault.MarkFault.TheVariants.{OutOfMemory as NoMemoryToMark}
 use Rattle.answers.specs.declared.reply.Answer.{Answer}
 use Rattle.answers.specs.declared.reply.Reply.{Reply}
 use Rattle.answers.specs.declared.reply.Reply.TheVariants.{Fine, Line, Edit, History, Mark, Ask, Said}
 use Rattle.edit_session.specs.Machine.{State, step}
 
--- ---- the reply; none where there was no memory
-abbrev pub edit_reply : Result Unit EditFault → Option Reply
-edit_reply (Ok done) = Some Fine
-edit_reply (Err NoMemoryToEdit) = None
-edit_reply (Err RowsFull) = Some (Edit RowsFull)
-edit_reply (Err (Duplicate name)) = Some (Edit (Duplicate name))
-edit_reply (Err (Unknown name)) = Some (Edit (Unknown name))
-edit_reply (Err (NotEarlier name)) = Some (Edit (NotEarlier name))
-edit_reply (Err (InUse name)) = Some (Edit (InUse name))
+-- ---- the reply to a call; none where it is out of memory
+abbrev pub IsEditReply : Result Unit EditFault → Option Reply → Type 0
+IsEditReply = IsReplyTo NoMemoryToEdit (λ done. Fine) Edit
 
-abbrev pub history_reply : Result Unit HistoryFault → Option Reply
-history_reply (Ok done) = Some Fine
-history_reply (Err NoMemoryToStep) = None
-history_reply (Err NothingToUndo) = Some (History NothingToUndo)
-history_reply (Err NothingToRedo) = Some (History NothingToRedo)
+abbrev pub IsHistoryReply : Result Unit HistoryFault → Option Reply → Type 0
+IsHistoryReply = IsReplyTo NoMemoryToStep (λ done. Fine) History
 
-abbrev pub mark_reply : Result Unit MarkFault → Option Reply
-mark_reply (Ok done) = Some Fine
-mark_reply (Err NoMemoryToMark) = None
-mark_reply (Err MarksFull) = Some (Mark MarksFull)
-mark_reply (Err (NoMark name)) = Some (Mark (NoMark name))
+abbrev pub IsMarkReply : Result Unit MarkFault → Option Reply → Type 0
+IsMarkReply = IsReplyTo NoMemoryToMark (λ done. Fine) Mark
 
-abbrev pub ask_reply : Result Answer AskFault → Option Reply
-ask_reply (Ok answer) = Some (Said answer)
-ask_reply (Err NoMemoryToAsk) = None
-ask_reply (Err (NothingAsked name)) = Some (Ask (NothingAsked name))
-ask_reply (Err (NoSuchResult name)) = Some (Ask (NoSuchResult name))
+abbrev pub IsAskReply : Result Answer AskFault → Option Reply → Type 0
+IsAskReply = IsReplyTo NoMemoryToAsk Said Ask
 
 -- ---- out of memory
 abbrev pub is_refusal : Reply → Bool

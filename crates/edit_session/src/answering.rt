@@ -1,10 +1,11 @@
-ghost use Rattle.std.specs.Prelude.{◌≡◌, IfOk, OnOk};
+ghost use Rattle.std.specs.Prelude.{◌≡◌, IfOk, OnOk, Option};
 ghost use Rattle.sheet_rows.specs.Regular.{AreRegular};
 ghost use Rattle.answers.specs.declared.command.Query.TheVariants.{Value as AskValue};
 ghost use Rattle.answers.specs.Replies.{IsRegularAnswer};
+ghost use Rattle.answers.specs.declared.reply.Reply.{Reply};
 ghost use Rattle.edit_session.specs.Replies.{reply_to};
 ghost use Rattle.edit_session.specs.Sound.{IsSoundAnswer};
-ghost use Rattle.edit_session.specs.Calls.{ask_reply, Gives};
+ghost use Rattle.edit_session.specs.Calls.{IsAskReply, Gives};
 
 use crate::valuing::values_of;
 use answers::{Answer, AskFault, Query};
@@ -27,7 +28,7 @@ pub(crate) fn ask_sheet<L: Ledger>(
     query: &Query,
     steps: &mut Steps<L>,
 ) -> Result<Answer, AskFault>
-    ensures reply { Gives (ask_reply result) (reply_to sheet.now query.now) }
+    ensures reply { (reply : Option Reply) → IsAskReply result reply → Gives reply (reply_to sheet.now query.now) }
     ensures sound { IfOk result (λ answer. IsSoundAnswer sheet.now answer) }
     ensures regular { IfOk result IsRegularAnswer }
 {
@@ -47,7 +48,7 @@ fn value_of<L: Ledger>(
     name: Name,
     steps: &mut Steps<L>,
 ) -> Result<Answer, AskFault>
-    ensures reply { Gives (ask_reply result) (reply_to sheet.now (AskValue name)) }
+    ensures reply { (reply : Option Reply) → IsAskReply result reply → Gives reply (reply_to sheet.now (AskValue name)) }
     ensures sound { IfOk result (λ answer. IsSoundAnswer sheet.now answer) }
     ensures regular { IfOk result IsRegularAnswer }
 {

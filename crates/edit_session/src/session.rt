@@ -1,12 +1,13 @@
-ghost use Rattle.std.specs.Prelude.{◌≡◌, ◌||◌, IfOk, IfSome, is_some, nat_lt, length, bytes_eq};
+ghost use Rattle.std.specs.Prelude.{◌≡◌, ◌||◌, IfOk, IfSome, Option, is_some, nat_lt, length, bytes_eq};
 ghost use Rattle.std.specs.Map.{lookup};
 ghost use Rattle.answers.specs.Commands.{edit_of, IsRegularEdit, Change, Undo, Redo, Mark, Restore, Ask, AskAt};
 ghost use Rattle.answers.specs.Replies.{IsRegularAnswer};
+ghost use Rattle.answers.specs.declared.reply.Reply.{Reply};
 ghost use Rattle.edit_session.specs.Machine.{initial, kept_as, mark_limit};
 ghost use Rattle.edit_session.specs.Live.{state_of};
 ghost use Rattle.edit_session.specs.Sound.{IsSoundAnswer};
 ghost use Rattle.edit_session.specs.Standing.{IsStandingState};
-ghost use Rattle.edit_session.specs.Calls.{edit_reply, history_reply, mark_reply, ask_reply, Does};
+ghost use Rattle.edit_session.specs.Calls.{IsEditReply, IsHistoryReply, IsMarkReply, IsAskReply, Does};
 
 use crate::answering::ask_sheet;
 use crate::edits::apply;
@@ -79,7 +80,7 @@ impl Session {
     /// The refusal that the sheet gives, or [`EditFault::OutOfMemory`]; the session stays as it was.
     pub fn edit(&mut self, edit: Edit) -> Result<(), EditFault>
         requires { IsRegularEdit (edit_of edit) }
-        ensures { Does (state_of self.old) (Change (edit_of edit)) (state_of self.new) (edit_reply result) }
+        ensures { (reply : Option Reply) → IsEditReply result reply → Does (state_of self.old) (Change (edit_of edit)) (state_of self.new) reply }
     {
         let before = self.present.copy()?;
         apply(&mut self.present, edit)?;
@@ -95,7 +96,7 @@ impl Session {
     /// [`HistoryFault::NothingToUndo`] exactly where the past is empty, or out of memory; the session stays
     /// as it was.
     pub fn undo(&mut self) -> Result<(), HistoryFault>
-        ensures { Does (state_of self.old) Undo (state_of self.new) (history_reply result) }
+        ensures { (reply : Option Reply) → IsHistoryReply result reply → Does (state_of self.old) Undo (state_of self.new) reply }
     {
         if self.past.is_empty() {
             return Err(HistoryFault::NothingToUndo);
@@ -115,7 +116,7 @@ impl Session {
     /// [`HistoryFault::NothingToRedo`] exactly where the future is empty; the session stays as it was. It
     /// takes no memory.
     pub fn redo(&mut self) -> Result<(), HistoryFault>
-        ensures { Does (state_of self.old) Redo (state_of self.new) (history_reply result) }
+        ensures { (reply : Option Reply) → IsHistoryReply result reply → Does (state_of self.old) Redo (state_of self.new) reply }
     {
         let Some(sheet) = self.future.pop() else {
             return Err(HistoryFault::NothingToRedo);
@@ -132,7 +133,7 @@ impl Session {
     /// [`MarkFault::MarksFull`] exactly where the name is new and there are 16 marks, or out of memory; the
     /// session stays as it was.
     pub fn mark(&mut self, name: Name) -> Result<(), MarkFault>
-        ensures { Does (state_of self.old) (Mark name) (state_of self.new) (mark_reply result) }
+        ensures { (reply : Option Reply) → IsMarkReply result reply → Does (state_of self.old) (Mark name) (state_of self.new) reply }
     {
         if !may_mark(&self.marks, &name) {
             return Err(MarkFault::MarksFull);
@@ -151,7 +152,7 @@ impl Session {
     /// [`MarkFault::NoMark`] exactly where no mark has the name, or out of memory; the session stays as it
     /// was.
     pub fn restore(&mut self, name: &Name) -> Result<(), MarkFault>
-        ensures { Does (state_of self.old) (Restore name.now) (state_of self.new) (mark_reply result) }
+        ensures { (reply : Option Reply) → IsMarkReply result reply → Does (state_of self.old) (Restore name.now) (state_of self.new) reply }
     {
         let Some(kept) = self.marks.get(name) else {
             return Err(MarkFault::NoMark(*name));
@@ -173,7 +174,7 @@ impl Session {
         query: &Query,
         steps: &mut Steps<L>,
     ) -> Result<Answer, AskFault>
-        ensures reply { Does (state_of self.old) (Ask query.now) (state_of self.new) (ask_reply result) }
+        ensures reply { (reply : Option Reply) → IsAskReply result reply → Does (state_of self.old) (Ask query.now) (state_of self.new) reply }
         ensures sound { IfOk result (λ answer. IsSoundAnswer (state_of self.old).present answer) }
         ensures regular { IfOk result IsRegularAnswer }
     {
@@ -192,7 +193,7 @@ impl Session {
         query: &Query,
         steps: &mut Steps<L>,
     ) -> Result<Answer, AskFault>
-        ensures reply { Does (state_of self.old) (AskAt mark.now query.now) (state_of self.new) (ask_reply result) }
+        ensures reply { (reply : Option Reply) → IsAskReply result reply → Does (state_of self.old) (AskAt mark.now query.now) (state_of self.new) reply }
         ensures sound { IfOk result (λ answer. IfSome (kept_as (state_of self.old).marks mark.now) (λ sheet. IsSoundAnswer sheet answer)) }
         ensures regular { IfOk result IsRegularAnswer }
     {

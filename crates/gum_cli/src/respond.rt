@@ -1,8 +1,8 @@
-ghost use Rattle.std.specs.Prelude.{◌≡◌, ◌++◌, ◌∷◌, [], List, IsTrue, IsFalse, IfSome, IfNone, IfOk, OnOk, OnErr};
+ghost use Rattle.std.specs.Prelude.{◌≡◌, ◌++◌, ◌∷◌, [], List, IfSome, IfNone, IfOk, OnOk, OnErr};
 ghost use Rattle.script_lines.specs.declared.item.Item.{Item};
 ghost use Rattle.script_lines.specs.Items.{items_of, whole_items_of};
 ghost use Rattle.script_lines.specs.Commands.{command_read};
-ghost use Rattle.script_lines.specs.Texts.{is_line_memory, is_memory_fault};
+ghost use Rattle.script_lines.specs.Texts.{SaysOutOfMemory};
 ghost use Rattle.answers.specs.Replies.{IsRegularReply};
 ghost use Rattle.edit_session.specs.Live.{state_of};
 ghost use Rattle.gum_cli.specs.Script.{state_after_line, replies_of, replies_to, text_of_replies, out};
@@ -39,9 +39,9 @@ pub fn respond<L: Ledger>(
 // A line that is no command is refused, or out of memory exactly where its reading found none.
 fn refuse(fault: LineFault) -> Result<Reply, OutOfMemory>
     ensures same { IfOk result (λ reply. reply ≡ Reply.Line fault) }
-    ensures said { IfOk result (λ reply. IsFalse (is_memory_fault reply)) }
+    ensures said { IfOk result (λ reply. SaysOutOfMemory reply → ⊥) }
     ensures regular { IfOk result IsRegularReply }
-    ensures memory { OnErr result (IsTrue (is_line_memory fault)) }
+    ensures memory { OnErr result (SaysOutOfMemory (Reply.Line fault)) }
 {
     match fault {
         LineFault::OutOfMemory | LineFault::Row(RowFault::OutOfMemory) => Err(OutOfMemory),
@@ -60,7 +60,7 @@ fn reply_to<L: Ledger>(
     ensures reply { IfOk result (λ reply. IfSome reply (λ reply.
         replies_of (state_of session.old) (command_read item.now) ≡ reply ∷ [])) }
     ensures none { IfOk result (λ reply. IfNone reply (replies_of (state_of session.old) (command_read item.now) ≡ [])) }
-    ensures said { IfOk result (λ reply. IfSome reply (λ reply. IsFalse (is_memory_fault reply))) }
+    ensures said { IfOk result (λ reply. IfSome reply (λ reply. SaysOutOfMemory reply → ⊥)) }
     ensures regular { IfOk result (λ reply. IfSome reply IsRegularReply) }
 {
     match read_command(alloc, item) {

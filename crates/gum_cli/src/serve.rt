@@ -1,10 +1,10 @@
-ghost use Rattle.std.specs.Prelude.{◌≡◌, IsFalse, IfOk};
+ghost use Rattle.std.specs.Prelude.{IfOk};
 ghost use Rattle.std.specs.Result.{result_ok};
 ghost use Rattle.answers.specs.Commands.{command_of, IsRegularCommand};
 ghost use Rattle.answers.specs.Replies.{IsRegularAnswer, IsRegularReply};
-ghost use Rattle.script_lines.specs.Texts.{is_memory_fault};
+ghost use Rattle.script_lines.specs.Texts.{SaysOutOfMemory};
 ghost use Rattle.edit_session.specs.Live.{state_of};
-ghost use Rattle.edit_session.specs.Calls.{edit_reply, history_reply, mark_reply, ask_reply, Does};
+ghost use Rattle.edit_session.specs.Calls.{IsEditReply, IsHistoryReply, IsMarkReply, IsAskReply, Does};
 
 use answers::{Answer, AskFault, Command, HistoryFault, MarkFault, Reply};
 use edit_session::Session;
@@ -26,7 +26,7 @@ pub(crate) fn serve<L: Ledger>(
 ) -> Result<Reply, OutOfMemory>
     requires { IsRegularCommand (command_of command) }
     ensures step { Does (state_of session.old) (command_of command) (state_of session.new) (result_ok result) }
-    ensures said { IfOk result (λ reply. IsFalse (is_memory_fault reply)) }
+    ensures said { IfOk result (λ reply. SaysOutOfMemory reply → ⊥) }
     ensures regular { IfOk result IsRegularReply }
 {
     match command {
@@ -42,8 +42,8 @@ pub(crate) fn serve<L: Ledger>(
 
 // The reply to an edit, or out of memory exactly where the session found none.
 fn answer_edit(done: Result<(), EditFault>) -> Result<Reply, OutOfMemory>
-    ensures reply { result_ok result ≡ edit_reply done }
-    ensures said { IfOk result (λ reply. IsFalse (is_memory_fault reply)) }
+    ensures reply { IsEditReply done (result_ok result) }
+    ensures said { IfOk result (λ reply. SaysOutOfMemory reply → ⊥) }
     ensures regular { IfOk result IsRegularReply }
 {
     match done {
@@ -55,8 +55,8 @@ fn answer_edit(done: Result<(), EditFault>) -> Result<Reply, OutOfMemory>
 
 // The reply to a step back or forward, or out of memory exactly where the session found none.
 fn answer_step(done: Result<(), HistoryFault>) -> Result<Reply, OutOfMemory>
-    ensures reply { result_ok result ≡ history_reply done }
-    ensures said { IfOk result (λ reply. IsFalse (is_memory_fault reply)) }
+    ensures reply { IsHistoryReply done (result_ok result) }
+    ensures said { IfOk result (λ reply. SaysOutOfMemory reply → ⊥) }
     ensures regular { IfOk result IsRegularReply }
 {
     match done {
@@ -68,8 +68,8 @@ fn answer_step(done: Result<(), HistoryFault>) -> Result<Reply, OutOfMemory>
 
 // The reply to a mark or to its being restored, or out of memory exactly where the session found none.
 fn answer_mark(done: Result<(), MarkFault>) -> Result<Reply, OutOfMemory>
-    ensures reply { result_ok result ≡ mark_reply done }
-    ensures said { IfOk result (λ reply. IsFalse (is_memory_fault reply)) }
+    ensures reply { IsMarkReply done (result_ok result) }
+    ensures said { IfOk result (λ reply. SaysOutOfMemory reply → ⊥) }
     ensures regular { IfOk result IsRegularReply }
 {
     match done {
@@ -81,8 +81,8 @@ fn answer_mark(done: Result<(), MarkFault>) -> Result<Reply, OutOfMemory>
 
 // The reply to a query, or out of memory exactly where the session found none.
 fn answer_query(answered: Result<Answer, AskFault>) -> Result<Reply, OutOfMemory>
-    ensures reply { result_ok result ≡ ask_reply answered }
-    ensures said { IfOk result (λ reply. IsFalse (is_memory_fault reply)) }
+    ensures reply { IsAskReply answered (result_ok result) }
+    ensures said { IfOk result (λ reply. SaysOutOfMemory reply → ⊥) }
     ensures regular { IfOk answered IsRegularAnswer → IfOk result IsRegularReply }
 {
     match answered {

@@ -1,5 +1,5 @@
 -- The texts of replies, each of whole lines.
-use Rattle.std.specs.Prelude.{ℕ, Bool, true, false, List, [], ◌∷◌, ◌++◌, codes, decimal}
+use Rattle.std.specs.Prelude.{◌≡◌, ◌⊎◌, ℕ, List, [], ◌∷◌, ◌++◌, codes, decimal}
 use Rattle.decimal18.specs.Text.{text_of}
 use Rattle.fixed_interval.specs.declared.faults.ArithFault.{ArithFault}
 use Rattle.fixed_interval.specs.declared.faults.ArithFault.TheVariants.{ZeroDivisor, Overflow}
@@ -98,54 +98,12 @@ text_of_reply (Mark fault) = text_of_mark_fault fault
 text_of_reply (Ask fault) = text_of_ask_fault fault
 text_of_reply (Said answer) = text_of_answer answer
 
--- ---- replies that say out of memory
-abbrev pub is_row_memory : RowFault → Bool
-is_row_memory OutOfMemory = true
-is_row_memory (Syntax at) = false
-is_row_memory (NotNumber at) = false
-is_row_memory (NumberRange at) = false
-is_row_memory (UnknownFunction at) = false
-is_row_memory (BadPower at) = false
-is_row_memory (TooDeep at) = false
-is_row_memory (TooManyNodes at) = false
-is_row_memory Negative = false
-is_row_memory NotBuilt = false
-
-abbrev pub is_line_memory : LineFault → Bool
-is_line_memory LineMemory = true
-is_line_memory (RowRefused fault) = is_row_memory fault
-is_line_memory (LineSyntax at) = false
-is_line_memory LongLine = false
-is_line_memory LineNotBuilt = false
-
-abbrev pub is_edit_memory : EditFault → Bool
-is_edit_memory EditMemory = true
-is_edit_memory RowsFull = false
-is_edit_memory (Duplicate name) = false
-is_edit_memory (Unknown name) = false
-is_edit_memory (NotEarlier name) = false
-is_edit_memory (InUse name) = false
-
-abbrev pub is_history_memory : HistoryFault → Bool
-is_history_memory HistoryMemory = true
-is_history_memory NothingToUndo = false
-is_history_memory NothingToRedo = false
-
-abbrev pub is_mark_memory : MarkFault → Bool
-is_mark_memory MarkMemory = true
-is_mark_memory MarksFull = false
-is_mark_memory (NoMark name) = false
-
-abbrev pub is_ask_memory : AskFault → Bool
-is_ask_memory AskMemory = true
-is_ask_memory (AskNoMark name) = false
-is_ask_memory (NoSuchResult name) = false
-
-abbrev pub is_memory_fault : Reply → Bool
-is_memory_fault (Line fault) = is_line_memory fault
-is_memory_fault (Edit fault) = is_edit_memory fault
-is_memory_fault (History fault) = is_history_memory fault
-is_memory_fault (Mark fault) = is_mark_memory fault
-is_memory_fault (Ask fault) = is_ask_memory fault
-is_memory_fault Fine = false
-is_memory_fault (Said answer) = false
+-- ---- the replies that say out of memory
+abbrev pub SaysOutOfMemory : Reply → Type 0
+SaysOutOfMemory (Line fault) = (fault ≡ LineMemory) ⊎ (fault ≡ RowRefused OutOfMemory)
+SaysOutOfMemory (Edit fault) = fault ≡ EditMemory
+SaysOutOfMemory (History fault) = fault ≡ HistoryMemory
+SaysOutOfMemory (Mark fault) = fault ≡ MarkMemory
+SaysOutOfMemory (Ask fault) = fault ≡ AskMemory
+SaysOutOfMemory Fine = ⊥
+SaysOutOfMemory (Said answer) = ⊥

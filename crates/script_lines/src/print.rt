@@ -1,10 +1,10 @@
-ghost use Rattle.std.specs.Prelude.{◌≡◌, ◌++◌, map, IsFalse, IfOk, OnOk, codes};
+ghost use Rattle.std.specs.Prelude.{◌≡◌, ◌++◌, map, IfOk, OnOk, codes};
 ghost use Rattle.decimal18.specs.Text.{text_of};
 ghost use Rattle.sheet_rows.specs.Rows.{row_of};
 ghost use Rattle.sheet_rows.specs.Regular.{AreRegular};
 ghost use Rattle.answers.specs.Replies.{IsRegularAnswer, IsRegularReply};
 ghost use Rattle.answers.specs.declared.reply.Answer.{Answer};
-ghost use Rattle.script_lines.specs.Texts.{arithmetic_words, text_of_rows, text_of_answer, text_of_reply, is_memory_fault};
+ghost use Rattle.script_lines.specs.Texts.{arithmetic_words, text_of_rows, text_of_answer, text_of_reply, SaysOutOfMemory};
 
 use crate::print_fault::{
     put_ask_fault, put_edit_fault, put_history_fault, put_line_fault, put_mark_fault, put_named,
@@ -94,7 +94,7 @@ fn put_reply(alloc: Global, text: &mut Bytes, reply: &Reply) -> Result<(), OutOf
 ///
 /// [`OutOfMemory`] where there is no memory for the text.
 pub fn print_reply(alloc: Global, reply: &Reply) -> Result<Bytes, OutOfMemory>
-    requires told { IsFalse (is_memory_fault reply.now) }
+    requires told { SaysOutOfMemory reply.now → ⊥ }
     requires regular { IsRegularReply reply.now }
     ensures { IfOk result (λ text. text ≡ text_of_reply reply.now) }
 {

@@ -1,8 +1,7 @@
 //! Texts in pieces, lines that are refused, and printed replies.
 
-ghost use Rattle.std.specs.Prelude.{IsFalse};
 ghost use Rattle.answers.specs.Replies.{IsRegularReply};
-ghost use Rattle.script_lines.specs.Texts.{is_memory_fault};
+ghost use Rattle.script_lines.specs.Texts.{SaysOutOfMemory};
 
 use crate::{Item, Splitter, print_reply, read_command};
 use answers::{Answer, AskFault, Command, Edit, HistoryFault, LineFault, MarkFault, Query, Reply};
@@ -193,7 +192,7 @@ fn lines_that_are_commands(rt: HostRuntime) -> Result<(), Fail> {
 
 // Whether this is the text of the reply.
 fn prints(alloc: Global, reply: Reply, text: &str) -> Result<bool, Fail>
-    requires told { IsFalse (is_memory_fault reply) }
+    requires told { SaysOutOfMemory reply → ⊥ }
     requires regular { IsRegularReply reply }
 {
     Ok(print_reply(alloc, &reply)?.as_slice() == text.as_bytes())

@@ -1,16 +1,15 @@
-use Rattle.std.proofs.Common.{Some, is_some, bytes_eq, sym, ◌∙◌, ap, subst}
+use Rattle.std.proofs.Common.{Some, is_some, bytes_eq, sym, ◌∙◌, ap}
 use Rattle.answers.specs.declared.command.Query.TheVariants.{Value}
 use Rattle.edit_session.specs.Replies.{quantities, reply_to}
-use Rattle.edit_session.specs.Calls.{Gives}
 use Rattle.value_cache.proofs.Sound.{values_enclosed}
 use Rattle.edit_session.proofs.Walking.{exponents_of_rows}
-use Rattle.edit_session.proofs.Calls.{unanswered}
+use Rattle.edit_session.proofs.Calls.{not_asked}
 use Rattle.edit_session.proofs.ReplyLaws.{evaluated, fine_reply}
 use Rattle.edit_session.proofs.answering.value_of.Goals as goal
 
 pub returns-in_err-values-clause-reply : goal.returns-in_err-values-clause-reply
 returns-in_err-values-clause-reply g c =
-    subst (λ given. Gives given (reply_to c.args.sheet.now (Value c.args.name))) (sym (unanswered c.from_residual.result c.from_residual.ensures.1))
+    not_asked (reply_to c.args.sheet.now (Value c.args.name)) c.from_residual.result c.from_residual.ensures.1
     (fine_reply c.args.sheet.now c.rows-rows.ensures.standing c.args.name (sym c.has_quantity.ensures ∙ c.if-not-has_quantity.false))
 
 pub unwrap-requires : goal.unwrap-requires

@@ -1,6 +1,9 @@
 use Rattle.std.proofs.Common.{◌≡◌, ◌++◌, ◌∷◌, [], ◌∙◌, ap, ap₂, subst}
 use Rattle.circular_buffer.specs.Buffer.{buffer, keep_last}
-use Rattle.answers.specs.declared.reply.Reply.TheVariants.{Fine}
+use Rattle.answers.specs.declared.reply.Reply.TheVariants.{Fine, Edit as EditRefused}
+use Rattle.sheet_rows.specs.declared.edit_fault.EditFault.TheVariants.{OutOfMemory as NoMemoryToEdit}
+use Rattle.edit_session.specs.Calls.{Does}
+use Rattle.edit_session.proofs.Calls.{reply_given}
 use Rattle.edit_session.specs.Machine.{State, step}
 use Rattle.edit_session.specs.Live.{state_of}
 use Rattle.edit_session.specs.States.{state_in, state_from}
@@ -32,4 +35,6 @@ invariant_of-self-2 c = record {
 
 pub returns : goal.returns
 unfolding after
-returns c = subst (λ l. step (state_of l) (Change (edit_of c.args.edit)) ≡ (after c, Fine)) c.self.view_is (stepped c)
+returns c =
+    reply_given NoMemoryToEdit (λ done. Fine) EditRefused (Does (state_of c.args.self.now) (Change (edit_of c.args.edit)) (after c)) tt
+    (subst (λ l. step (state_of l) (Change (edit_of c.args.edit)) ≡ (after c, Fine)) c.self.view_is (stepped c))

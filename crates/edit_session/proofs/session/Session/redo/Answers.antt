@@ -2,7 +2,10 @@ use Rattle.std.proofs.Common.{◌≡◌, ◌++◌, ◌∷◌, [], sym, ◌∙◌
 use Rattle.std.specs.Option.{option_to_list}
 use Rattle.circular_buffer.specs.Buffer.{buffer, keep_last}
 use Rattle.answers.specs.Commands.{Redo}
-use Rattle.answers.specs.declared.reply.Reply.TheVariants.{Fine}
+use Rattle.answers.specs.declared.reply.Reply.TheVariants.{Fine, History as HistoryRefused}
+use Rattle.answers.specs.declared.fault.HistoryFault.TheVariants.{OutOfMemory as NoMemoryToStep}
+use Rattle.edit_session.specs.Calls.{Does}
+use Rattle.edit_session.proofs.Calls.{reply_given}
 use Rattle.edit_session.specs.Machine.{State, step}
 use Rattle.edit_session.specs.Live.{state_of}
 use Rattle.edit_session.specs.States.{state_in, state_from}
@@ -36,4 +39,6 @@ invariant_of-self-2 c = record {
 
 pub returns : goal.returns
 unfolding after
-returns c = subst (λ l. step (state_of l) Redo ≡ (after c, Fine)) c.self.view_is (stepped c)
+returns c =
+    reply_given NoMemoryToStep (λ done. Fine) HistoryRefused (Does (state_of c.args.self.now) Redo (after c)) tt
+    (subst (λ l. step (state_of l) Redo ≡ (after c, Fine)) c.self.view_is (stepped c))

@@ -6,16 +6,20 @@ use Rattle.edit_session.specs.Live.{state_of}
 use Rattle.edit_session.specs.States.{state_in, state_from}
 use Rattle.edit_session.proofs.Standing.{stepped-standing}
 use Rattle.answers.specs.Commands.{Restore}
-use Rattle.answers.specs.declared.fault.MarkFault.TheVariants.{NoMark}
+use Rattle.answers.specs.declared.fault.MarkFault.TheVariants.{NoMark, OutOfMemory as NoMemoryToMark}
 use Rattle.answers.specs.declared.reply.Reply.TheVariants.{Mark as MarkRefused}
 use Rattle.edit_session.specs.Machine.{kept_as, restored}
+use Rattle.edit_session.specs.Calls.{Does}
+use Rattle.edit_session.proofs.Calls.{reply_given, reply_refused}
 use Rattle.edit_session.proofs.Steps.{Pushed, restore_step}
 use Rattle.edit_session.proofs.session.Session.restore.Goals as goal
 
 pub returns-in_default : goal.returns-in_default
 returns-in_default c =
+    let at = state_of c.args.self.now in
+    reply_refused NoMemoryToMark (λ done. Fine) MarkRefused (Does at (Restore c.args.name.now) at) (NoMark c.args.name.now) (λ e. absurd (cc)) (λ n.
     subst (λ l. step (state_of l) (Restore c.args.name.now) ≡ (state_of l, MarkRefused (NoMark c.args.name.now))) c.self.view_is
-    (ap (restored (state_in c.self.inside) c.args.name.now) (sym c.in_default.ensures.value))
+    (ap (restored (state_in c.self.inside) c.args.name.now) (sym c.in_default.ensures.value)))
 
 pushed : (c : goal.After-clear) → Pushed c.push_back.new.self c.self.inside.past.items c.self.inside.present
 pushed c =
@@ -42,4 +46,6 @@ invariant_of-self c = record {
 
 pub returns : goal.returns
 unfolding after
-returns c = subst (λ l. step (state_of l) (Restore c.args.name.now) ≡ (after c, Fine)) c.self.view_is (stepped c)
+returns c =
+    reply_given NoMemoryToMark (λ done. Fine) MarkRefused (Does (state_of c.args.self.now) (Restore c.args.name.now) (after c)) tt
+    (subst (λ l. step (state_of l) (Restore c.args.name.now) ≡ (after c, Fine)) c.self.view_is (stepped c))
