@@ -1,19 +1,19 @@
 -- What the session's calls answer is what `Does` says of them.
-use Rattle.std.specs.Prelude.{◌≡◌, ◌≢◌, ℕ, zero, suc, ◌-◌, Bool, true, false, not, IsTrue, List, [], ◌∷◌, length, slice_get, is_some, Option, Some, None, Result, Ok, Err, refl}
+use Rattle.std.specs.Prelude.{◌≡◌, ◌≢◌, ℕ, suc, ◌-◌, true, not, IsTrue, List, [], ◌∷◌, length, slice_get, is_some, Option, Some, None, Result, Ok, Err, refl}
 use Rattle.std.specs.Result.{IsErrAnd}
 use Rattle.std.proofs.Common.{sym, ◌∙◌, ap, subst, arith}
 use Rattle.line_text.specs.Memory.{IsReplyTo}
 use Rattle.sheet_rows.specs.Rows.{Sheet}
 use Rattle.sheet_rows.specs.declared.edit_fault.EditFault.{EditFault}
 use Rattle.sheet_rows.specs.declared.edit_fault.EditFault.TheVariants.{OutOfMemory as NoMemoryToEdit}
-use Rattle.answers.specs.Commands.{Edit, Command, Change, Undo, Mark, Ask, AskAt}
+use Rattle.answers.specs.Commands.{Edit, Change, Undo, Mark, Ask, AskAt}
 use Rattle.answers.specs.declared.command.Query.{Query}
 use Rattle.answers.specs.declared.fault.AskFault.{AskFault}
 use Rattle.answers.specs.declared.fault.AskFault.TheVariants.{OutOfMemory as NoMemoryToAsk}
 use Rattle.answers.specs.declared.reply.Answer.{Answer}
 use Rattle.answers.specs.declared.reply.Reply.{Reply}
 use Rattle.answers.specs.declared.reply.Reply.TheVariants.{Fine, Edit as EditRefused, Ask as AskRefused, Said}
-use Rattle.edit_session.specs.Machine.{State, last_of, verdict, edited, undone, may_mark, marked, kept_as, reply_at, step}
+use Rattle.edit_session.specs.Machine.{State, last_of, verdict, edited, undone, may_mark, marked, kept_as, reply_at}
 use Rattle.edit_session.specs.Replies.{reply_to}
 use Rattle.edit_session.specs.Calls.{IsEditReply, IsAskReply, is_refusal, may_be_out_of_memory, Does, Gives}
 

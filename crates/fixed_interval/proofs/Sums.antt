@@ -1,13 +1,13 @@
 -- What operations on spans that may have left the range enclose, and sums of such spans, some terms at a time.
 use Rattle.std.specs.Prelude.{◌≡◌, List, [], ◌∷◌, ◌++◌, map, Option, None, Some, Ok, Err, pos, refl}
-use Rattle.std.specs.Option.{ok_or, unwrap_or}
+use Rattle.std.specs.Option.{ok_or}
 use Rattle.std.proofs.Common.{◌∙◌, ap, subst}
 use Rattle.exact_fraction.specs.Number.{ℚ, ◌+ℚ◌, ◌*ℚ◌, neg_ℚ}
 use Rattle.exact_fraction.specs.Sums.{total}
 use Rattle.exact_fraction.proofs.Ring.{ring, Whole, ◌:+◌, x0, x1, x2}
 use Rattle.fixed_interval.specs.Interval.{Interval, Encloses, sum_span}
 use Rattle.fixed_interval.specs.Rules.{difference_span, product_span}
-use Rattle.fixed_interval.specs.Sums.{zero_span, both, sum_on, sum_of, sum_after, Holds, AllHold}
+use Rattle.fixed_interval.specs.Sums.{both, sum_on, sum_of, sum_after, Holds, AllHold}
 use Rattle.fixed_interval.specs.declared.faults.Overflow.{Overflow}
 use Rattle.fixed_interval.proofs.Enclosures.{zero_encloses, sum_span_encloses}
 use Rattle.fixed_interval.proofs.Inclusions.{product_span_encloses, difference_span_encloses}

@@ -1,5 +1,5 @@
 -- The reading of a text from its start: what holds before each token, and after the last.
-use Rattle.std.proofs.Common.{◌≡◌, ℕ, zero, suc, ◌+◌, ◌-◌, ◌<◌, ◌≤◌, ◌==◌, ◌&&◌, Bool, true, false, cond, nat_le, List, [], ◌∷◌, length, drop, refl, sym, ◌∙◌, ap, subst, arith, Option, None, Some, Result, Err}
+use Rattle.std.proofs.Common.{◌≡◌, ℕ, zero, suc, ◌+◌, ◌-◌, ◌<◌, ◌≤◌, ◌==◌, ◌&&◌, Bool, true, false, cond, nat_le, List, ◌∷◌, length, drop, refl, sym, ◌∙◌, ap, subst, arith, Option, None, Some, Result, Err}
 use Rattle.std.proofs.lemmas.Bool.Decides.{nat_tests}
 use Rattle.line_text.specs.Blanks.{IsTight}
 use Rattle.line_text.proofs.PieceSteps.{first_piece}

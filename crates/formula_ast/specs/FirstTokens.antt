@@ -1,5 +1,5 @@
 -- A text whose tokens are read one by one, from the start.
-use Rattle.std.specs.Prelude.{◌≡◌, ℕ, ◌+◌, ◌-◌, ◌<◌, ◌≤◌, false, List, [], ◌∷◌, length, drop, IfSome}
+use Rattle.std.specs.Prelude.{◌≡◌, ℕ, ◌+◌, ◌-◌, ◌<◌, ◌≤◌, List, length, drop, IfSome}
 use Rattle.line_text.specs.Blanks.{IsTight}
 use Rattle.formula_ast.specs.Tokens.{len_of, kind_of, tokens}
 use Rattle.formula_ast.specs.declared.token.Kind.{Kind}

@@ -1,5 +1,5 @@
 -- What is said of the reading and the grammar together.
-use Rattle.std.specs.Prelude.{◌≡◌, ℕ, suc, ◌+◌, ◌≤◌, ◌==◌, ◌&&◌, cond, max, List, [], ◌∷◌, ◌++◌, Some, None, Result, Ok, Err}
+use Rattle.std.specs.Prelude.{◌≡◌, ℕ, suc, ◌+◌, ◌≤◌, max, List, [], ◌∷◌, ◌++◌, Some, None, Result, Ok, Err}
 use Rattle.formula_ast.specs.Trees.{Tree, nodes}
 use Rattle.formula_ast.specs.Tokens.{Token, tokens, kinds}
 use Rattle.formula_ast.specs.Grammar.{Written, Digits, Word, Minused, Both, Powered, Group, meant, SpellsText, GoesOn}

@@ -11,12 +11,12 @@ mod name_list;
 mod parting;
 mod print;
 mod read;
-mod rows;
 mod rules;
 #[cfg(test)]
 mod tests;
 mod token;
 mod uses;
+mod worked;
 
 pub use fault::FormulaFault;
 pub use formula::Formula;
@@ -31,5 +31,5 @@ pub use name_list::NameList;
 pub use parting::cut;
 pub use print::print_formula;
 pub use read::read_formula;
-pub use rows::{worked_prints, worked_readings, worked_refusals};
 pub use uses::names;
+pub use worked::{worked_prints, worked_readings, worked_refusals};

@@ -8,14 +8,14 @@ mod fault;
 mod laws;
 mod names;
 mod operations;
-mod rows;
 mod slope;
 #[cfg(test)]
 mod tests;
+mod worked;
 
 pub use differentiation::partial;
 pub use evaluation::eval;
 pub use fault::EvalFault;
 pub use laws::{differentiation_encloses, evaluation_encloses};
 pub use names::Env;
-pub use rows::{worked_derivatives, worked_faults, worked_uses, worked_values};
+pub use worked::{worked_derivatives, worked_faults, worked_uses, worked_values};

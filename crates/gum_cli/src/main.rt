@@ -7,13 +7,13 @@ mod laws;
 #[cfg(test)]
 mod limit_tests;
 mod respond;
-mod rows;
 mod run;
 #[cfg(test)]
 mod run_tests;
 mod serve;
 #[cfg(test)]
 mod tests;
+mod worked;
 
 ghost use Rattle.std.specs.Prelude.{◌≡◌, ◌↔◌, IsFalse};
 ghost use Rattle.std.specs.Process.{exit_status};

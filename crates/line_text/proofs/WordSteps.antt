@@ -3,7 +3,7 @@ use Rattle.std.proofs.Common.{◌≡◌, ℕ, zero, suc, ◌+◌, ◌<◌, ◌==
 use Rattle.std.specs.List.{prefix_len}
 use Rattle.std.proofs.lemmas.Bool.Decides.{nat_tests}
 use Rattle.line_text.specs.Blanks.{is_blank, IsTight, written_len}
-use Rattle.line_text.specs.Words.{Word, Cursor, word_len, word_at, words, words_from, words_left}
+use Rattle.line_text.specs.Words.{Word, word_len, word_at, words, words_from}
 use Rattle.line_text.proofs.PieceSteps.{blanks_tight, blanks_passed, first_piece, no_pieces}
 
 -- ---- the last byte that is no blank

@@ -1,5 +1,5 @@
 -- What lines add or set are regular rows.
-use Rattle.std.specs.Prelude.{ℕ, ◌+◌, List, [], ◌∷◌, length, Some, Ok, Err, IfOk, IfSome}
+use Rattle.std.specs.Prelude.{ℕ, List, [], ◌∷◌, length, Some, Ok, Err, IfOk, IfSome}
 use Rattle.line_text.specs.Words.{Word, words_from, written_part}
 use Rattle.sheet_rows.specs.Rows.{Row}
 use Rattle.sheet_rows.specs.Regular.{IsRegular}

@@ -1,5 +1,5 @@
 -- Where a line is read from a place after its end.
-use Rattle.std.proofs.Common.{◌≡◌, ℕ, zero, suc, ◌+◌, ◌<◌, ◌≤◌, List, [], ◌∷◌, length, drop, Err, refl, ap, arith}
+use Rattle.std.proofs.Common.{◌≡◌, ℕ, ◌+◌, ◌<◌, List, length, Err, ap, arith}
 use Rattle.std.proofs.lemmas.List.{drop_all}
 use Rattle.line_text.specs.Words.{words}
 use Rattle.sheet_rows.specs.Reading.{row_at, row_from}

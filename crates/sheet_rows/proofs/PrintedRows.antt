@@ -1,9 +1,7 @@
 -- The printed text of a row is read as the row again.
-use Rattle.std.proofs.lemmas.Bool.{and_parts}
-use Rattle.std.proofs.Common.{append_assoc, ◌≡◌, ℕ, ◌+◌, ◌<◌, Bool, true, false, List, [], ◌∷◌, ◌++◌, length, take, drop, refl, sym, ◌∙◌, ap, arith, drop-drop, Ok}
-use Rattle.std.specs.Prelude.{codes, not}
+use Rattle.std.proofs.Common.{append_assoc, ◌≡◌, ℕ, ◌+◌, ◌<◌, true, List, [], ◌∷◌, ◌++◌, length, take, drop, refl, sym, ◌∙◌, ap, arith, drop-drop, Ok}
+use Rattle.std.specs.Prelude.{codes}
 use Rattle.std.specs.List.{list_all, prefix_len}
-use mathlib.Core.List.{append-nil}
 use Rattle.std.proofs.Math.Seq.{take-append_seam, drop-append_seam}
 use Rattle.decimal18.specs.Bound.{Bound, IsDecimal}
 use Rattle.decimal18.specs.Text.{text_of}

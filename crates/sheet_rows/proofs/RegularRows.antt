@@ -1,9 +1,9 @@
 -- What lines give are regular rows.
-use Rattle.std.proofs.Common.{◌≡◌, ℕ, ◌+◌, Bool, true, false, cond, List, [], ◌∷◌, length, drop, refl, subst, ap, arith, Option, None, Some, Result, Ok, Err, IfOk}
+use Rattle.std.proofs.Common.{◌≡◌, ℕ, ◌+◌, Bool, true, false, cond, List, [], ◌∷◌, length, drop, refl, subst, arith, Option, None, Some, Result, Ok, Err, IfOk}
 use Rattle.std.specs.Prelude.{codes, bytes_eq}
 use Rattle.std.proofs.lemmas.Bool.Decides.{nat_tests}
 use Rattle.decimal18.specs.Bound.{Bound, canonical, IsCanonical, IsDecimal}
-use Rattle.decimal18.specs.Literal.{Literal, literal_of, exact_of, is_bound, as_bound, in_range, read, parsed}
+use Rattle.decimal18.specs.Literal.{Literal, literal_of, exact_of, is_bound, as_bound, read, parsed}
 use Rattle.decimal18.specs.declared.literal.NumFault.{NumFault}
 use Rattle.decimal18.specs.declared.literal.NumFault.TheVariants.{NotNumber as NoLiteral, NumberRange as NoBound}
 use Rattle.decimal18.proofs.Canonical.{IsReduced-canonical}

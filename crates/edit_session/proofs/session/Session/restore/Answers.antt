@@ -8,7 +8,7 @@ use Rattle.edit_session.proofs.Standing.{stepped-standing}
 use Rattle.answers.specs.Commands.{Restore}
 use Rattle.answers.specs.declared.fault.MarkFault.TheVariants.{NoMark, OutOfMemory as NoMemoryToMark}
 use Rattle.answers.specs.declared.reply.Reply.TheVariants.{Mark as MarkRefused}
-use Rattle.edit_session.specs.Machine.{kept_as, restored}
+use Rattle.edit_session.specs.Machine.{restored}
 use Rattle.edit_session.specs.Calls.{Does}
 use Rattle.edit_session.proofs.Calls.{reply_given, reply_refused}
 use Rattle.edit_session.proofs.Steps.{Pushed, restore_step}

@@ -15,7 +15,7 @@ use Rattle.formula_box.specs.Values.{span_of}
 use Rattle.sheet_rows.specs.Reading.{row_read}
 use Rattle.value_cache.specs.Evaluations.{evaluation_of}
 use Rattle.script_lines.specs.Commands.{line_read}
-use Rattle.gum_cli.proofs.rows.worked_verdicts.Goals as goal
+use Rattle.gum_cli.proofs.worked.worked_verdicts.Goals as goal
 
 pub returns-clause-duplicate : goal.returns-clause-duplicate
 unfolding digits line_read row_read reading_of parsed span_of evaluation_of outward quotient power_span holds_zero min_ℚ max_ℚ up down cut_off is_in_range value_of ◌+ℚ◌ ◌*ℚ◌ inv_ℚ neg_ℚ is_at_most_ℚ floor_ℚ floor is_at_most inverse ◌⊕◌ ◌⊗◌ fraction.negated /_rec₂ /_rec

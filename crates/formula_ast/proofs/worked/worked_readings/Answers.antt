@@ -1,7 +1,7 @@
 use Rattle.std.proofs.Common.{refl}
 use Rattle.decimal18.specs.Literal.{parsed}
 use Rattle.formula_ast.specs.Reading.{reading_of}
-use Rattle.formula_ast.proofs.rows.worked_readings.Goals as goal
+use Rattle.formula_ast.proofs.worked.worked_readings.Goals as goal
 
 pub returns-clause-third : goal.returns-clause-third
 unfolding reading_of parsed

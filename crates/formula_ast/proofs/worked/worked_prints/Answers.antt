@@ -1,6 +1,6 @@
 use Rattle.std.proofs.Common.{refl}
 use Rattle.std.specs.Fmt.{digits}
-use Rattle.formula_ast.proofs.rows.worked_prints.Goals as goal
+use Rattle.formula_ast.proofs.worked.worked_prints.Goals as goal
 
 pub returns-clause-product : goal.returns-clause-product
 unfolding digits

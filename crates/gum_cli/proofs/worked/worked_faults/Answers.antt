@@ -15,28 +15,20 @@ use Rattle.formula_box.specs.Values.{span_of}
 use Rattle.sheet_rows.specs.Reading.{row_read}
 use Rattle.value_cache.specs.Evaluations.{evaluation_of}
 use Rattle.script_lines.specs.Commands.{line_read}
-use Rattle.gum_cli.proofs.rows.worked_refusals.Goals as goal
+use Rattle.gum_cli.proofs.worked.worked_faults.Goals as goal
 
-pub returns-clause-number_range : goal.returns-clause-number_range
+pub returns-clause-overflow : goal.returns-clause-overflow
 unfolding digits line_read row_read reading_of parsed span_of evaluation_of outward quotient power_span holds_zero min_ℚ max_ℚ up down cut_off is_in_range value_of ◌+ℚ◌ ◌*ℚ◌ inv_ℚ neg_ℚ is_at_most_ℚ floor_ℚ floor is_at_most inverse ◌⊕◌ ◌⊗◌ fraction.negated /_rec₂ /_rec
-returns-clause-number_range c = refl
+returns-clause-overflow c = refl
 
-pub returns-clause-unknown_function : goal.returns-clause-unknown_function
+pub returns-clause-kept : goal.returns-clause-kept
 unfolding digits line_read row_read reading_of parsed span_of evaluation_of outward quotient power_span holds_zero min_ℚ max_ℚ up down cut_off is_in_range value_of ◌+ℚ◌ ◌*ℚ◌ inv_ℚ neg_ℚ is_at_most_ℚ floor_ℚ floor is_at_most inverse ◌⊕◌ ◌⊗◌ fraction.negated /_rec₂ /_rec
-returns-clause-unknown_function c = refl
+returns-clause-kept c = refl
 
-pub returns-clause-syntax : goal.returns-clause-syntax
+pub returns-clause-leftmost : goal.returns-clause-leftmost
 unfolding digits line_read row_read reading_of parsed span_of evaluation_of outward quotient power_span holds_zero min_ℚ max_ℚ up down cut_off is_in_range value_of ◌+ℚ◌ ◌*ℚ◌ inv_ℚ neg_ℚ is_at_most_ℚ floor_ℚ floor is_at_most inverse ◌⊕◌ ◌⊗◌ fraction.negated /_rec₂ /_rec
-returns-clause-syntax c = refl
+returns-clause-leftmost c = refl
 
-pub returns-clause-not_number : goal.returns-clause-not_number
+pub returns-clause-tiny : goal.returns-clause-tiny
 unfolding digits line_read row_read reading_of parsed span_of evaluation_of outward quotient power_span holds_zero min_ℚ max_ℚ up down cut_off is_in_range value_of ◌+ℚ◌ ◌*ℚ◌ inv_ℚ neg_ℚ is_at_most_ℚ floor_ℚ floor is_at_most inverse ◌⊕◌ ◌⊗◌ fraction.negated /_rec₂ /_rec
-returns-clause-not_number c = refl
-
-pub returns-clause-not_built : goal.returns-clause-not_built
-unfolding digits line_read row_read reading_of parsed span_of evaluation_of outward quotient power_span holds_zero min_ℚ max_ℚ up down cut_off is_in_range value_of ◌+ℚ◌ ◌*ℚ◌ inv_ℚ neg_ℚ is_at_most_ℚ floor_ℚ floor is_at_most inverse ◌⊕◌ ◌⊗◌ fraction.negated /_rec₂ /_rec
-returns-clause-not_built c = refl
-
-pub returns-clause-negative : goal.returns-clause-negative
-unfolding digits line_read row_read reading_of parsed span_of evaluation_of outward quotient power_span holds_zero min_ℚ max_ℚ up down cut_off is_in_range value_of ◌+ℚ◌ ◌*ℚ◌ inv_ℚ neg_ℚ is_at_most_ℚ floor_ℚ floor is_at_most inverse ◌⊕◌ ◌⊗◌ fraction.negated /_rec₂ /_rec
-returns-clause-negative c = refl
+returns-clause-tiny c = refl

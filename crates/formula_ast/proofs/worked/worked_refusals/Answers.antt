@@ -1,7 +1,7 @@
 use Rattle.std.proofs.Common.{refl}
 use Rattle.decimal18.specs.Literal.{parsed}
 use Rattle.formula_ast.specs.Reading.{reading_of}
-use Rattle.formula_ast.proofs.rows.worked_refusals.Goals as goal
+use Rattle.formula_ast.proofs.worked.worked_refusals.Goals as goal
 
 pub returns-clause-function : goal.returns-clause-function
 unfolding reading_of parsed

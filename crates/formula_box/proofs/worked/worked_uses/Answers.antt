@@ -10,20 +10,16 @@ use Rattle.fixed_interval.specs.Rules.{holds_zero, quotient}
 use Rattle.fixed_interval.specs.Powers.{power_span}
 use Rattle.formula_box.specs.Values.{span_of}
 use Rattle.formula_box.specs.Slopes.{partial_of}
-use Rattle.formula_box.proofs.rows.worked_derivatives.Goals as goal
+use Rattle.formula_box.proofs.worked.worked_uses.Goals as goal
 
-pub returns-clause-product : goal.returns-clause-product
+pub returns-clause-third : goal.returns-clause-third
 unfolding span_of partial_of power_span quotient holds_zero outward min_ℚ max_ℚ value_of up down cut_off is_in_range ◌+ℚ◌ ◌*ℚ◌ inv_ℚ neg_ℚ is_at_most_ℚ floor_ℚ floor is_at_most ◌⊕◌ ◌⊗◌ inverse fraction.negated /_rec₂ /_rec
-returns-clause-product c = refl
+returns-clause-third c = refl
 
-pub returns-clause-square : goal.returns-clause-square
+pub returns-clause-first : goal.returns-clause-first
 unfolding span_of partial_of power_span quotient holds_zero outward min_ℚ max_ℚ value_of up down cut_off is_in_range ◌+ℚ◌ ◌*ℚ◌ inv_ℚ neg_ℚ is_at_most_ℚ floor_ℚ floor is_at_most ◌⊕◌ ◌⊗◌ inverse fraction.negated /_rec₂ /_rec
-returns-clause-square c = refl
+returns-clause-first c = refl
 
-pub returns-clause-quotient : goal.returns-clause-quotient
+pub returns-clause-of_the_value : goal.returns-clause-of_the_value
 unfolding span_of partial_of power_span quotient holds_zero outward min_ℚ max_ℚ value_of up down cut_off is_in_range ◌+ℚ◌ ◌*ℚ◌ inv_ℚ neg_ℚ is_at_most_ℚ floor_ℚ floor is_at_most ◌⊕◌ ◌⊗◌ inverse fraction.negated /_rec₂ /_rec
-returns-clause-quotient c = refl
-
-pub returns-clause-steep : goal.returns-clause-steep
-unfolding span_of partial_of power_span quotient holds_zero outward min_ℚ max_ℚ value_of up down cut_off is_in_range ◌+ℚ◌ ◌*ℚ◌ inv_ℚ neg_ℚ is_at_most_ℚ floor_ℚ floor is_at_most ◌⊕◌ ◌⊗◌ inverse fraction.negated /_rec₂ /_rec
-returns-clause-steep c = refl
+returns-clause-of_the_value c = refl

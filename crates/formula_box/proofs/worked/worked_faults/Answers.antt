@@ -10,7 +10,7 @@ use Rattle.fixed_interval.specs.Rules.{holds_zero, quotient}
 use Rattle.fixed_interval.specs.Powers.{power_span}
 use Rattle.formula_box.specs.Values.{span_of}
 use Rattle.formula_box.specs.Slopes.{partial_of}
-use Rattle.formula_box.proofs.rows.worked_faults.Goals as goal
+use Rattle.formula_box.proofs.worked.worked_faults.Goals as goal
 
 pub returns-clause-overflow : goal.returns-clause-overflow
 unfolding span_of partial_of power_span quotient holds_zero outward min_ℚ max_ℚ value_of up down cut_off is_in_range ◌+ℚ◌ ◌*ℚ◌ inv_ℚ neg_ℚ is_at_most_ℚ floor_ℚ floor is_at_most ◌⊕◌ ◌⊗◌ inverse fraction.negated /_rec₂ /_rec

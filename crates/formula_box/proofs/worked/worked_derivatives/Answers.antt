@@ -10,16 +10,20 @@ use Rattle.fixed_interval.specs.Rules.{holds_zero, quotient}
 use Rattle.fixed_interval.specs.Powers.{power_span}
 use Rattle.formula_box.specs.Values.{span_of}
 use Rattle.formula_box.specs.Slopes.{partial_of}
-use Rattle.formula_box.proofs.rows.worked_values.Goals as goal
+use Rattle.formula_box.proofs.worked.worked_derivatives.Goals as goal
 
-pub returns-clause-third : goal.returns-clause-third
+pub returns-clause-product : goal.returns-clause-product
 unfolding span_of partial_of power_span quotient holds_zero outward min_ℚ max_ℚ value_of up down cut_off is_in_range ◌+ℚ◌ ◌*ℚ◌ inv_ℚ neg_ℚ is_at_most_ℚ floor_ℚ floor is_at_most ◌⊕◌ ◌⊗◌ inverse fraction.negated /_rec₂ /_rec
-returns-clause-third c = refl
+returns-clause-product c = refl
 
-pub returns-clause-cube : goal.returns-clause-cube
+pub returns-clause-square : goal.returns-clause-square
 unfolding span_of partial_of power_span quotient holds_zero outward min_ℚ max_ℚ value_of up down cut_off is_in_range ◌+ℚ◌ ◌*ℚ◌ inv_ℚ neg_ℚ is_at_most_ℚ floor_ℚ floor is_at_most ◌⊕◌ ◌⊗◌ inverse fraction.negated /_rec₂ /_rec
-returns-clause-cube c = refl
+returns-clause-square c = refl
 
-pub returns-clause-inverse : goal.returns-clause-inverse
+pub returns-clause-quotient : goal.returns-clause-quotient
 unfolding span_of partial_of power_span quotient holds_zero outward min_ℚ max_ℚ value_of up down cut_off is_in_range ◌+ℚ◌ ◌*ℚ◌ inv_ℚ neg_ℚ is_at_most_ℚ floor_ℚ floor is_at_most ◌⊕◌ ◌⊗◌ inverse fraction.negated /_rec₂ /_rec
-returns-clause-inverse c = refl
+returns-clause-quotient c = refl
+
+pub returns-clause-steep : goal.returns-clause-steep
+unfolding span_of partial_of power_span quotient holds_zero outward min_ℚ max_ℚ value_of up down cut_off is_in_range ◌+ℚ◌ ◌*ℚ◌ inv_ℚ neg_ℚ is_at_most_ℚ floor_ℚ floor is_at_most ◌⊕◌ ◌⊗◌ inverse fraction.negated /_rec₂ /_rec
+returns-clause-steep c = refl

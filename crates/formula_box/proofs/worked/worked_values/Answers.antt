@@ -10,16 +10,16 @@ use Rattle.fixed_interval.specs.Rules.{holds_zero, quotient}
 use Rattle.fixed_interval.specs.Powers.{power_span}
 use Rattle.formula_box.specs.Values.{span_of}
 use Rattle.formula_box.specs.Slopes.{partial_of}
-use Rattle.formula_box.proofs.rows.worked_uses.Goals as goal
+use Rattle.formula_box.proofs.worked.worked_values.Goals as goal
 
 pub returns-clause-third : goal.returns-clause-third
 unfolding span_of partial_of power_span quotient holds_zero outward min_ℚ max_ℚ value_of up down cut_off is_in_range ◌+ℚ◌ ◌*ℚ◌ inv_ℚ neg_ℚ is_at_most_ℚ floor_ℚ floor is_at_most ◌⊕◌ ◌⊗◌ inverse fraction.negated /_rec₂ /_rec
 returns-clause-third c = refl
 
-pub returns-clause-first : goal.returns-clause-first
+pub returns-clause-cube : goal.returns-clause-cube
 unfolding span_of partial_of power_span quotient holds_zero outward min_ℚ max_ℚ value_of up down cut_off is_in_range ◌+ℚ◌ ◌*ℚ◌ inv_ℚ neg_ℚ is_at_most_ℚ floor_ℚ floor is_at_most ◌⊕◌ ◌⊗◌ inverse fraction.negated /_rec₂ /_rec
-returns-clause-first c = refl
+returns-clause-cube c = refl
 
-pub returns-clause-of_the_value : goal.returns-clause-of_the_value
+pub returns-clause-inverse : goal.returns-clause-inverse
 unfolding span_of partial_of power_span quotient holds_zero outward min_ℚ max_ℚ value_of up down cut_off is_in_range ◌+ℚ◌ ◌*ℚ◌ inv_ℚ neg_ℚ is_at_most_ℚ floor_ℚ floor is_at_most ◌⊕◌ ◌⊗◌ inverse fraction.negated /_rec₂ /_rec
-returns-clause-of_the_value c = refl
+returns-clause-inverse c = refl

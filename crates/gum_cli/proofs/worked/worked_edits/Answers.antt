@@ -1,0 +1,30 @@
+use Rattle.std.proofs.Common.{refl}
+use Rattle.std.specs.Fmt.{digits}
+use std.Quotient.{/_rec, /_rec₂}
+use Rattle.exact_fraction.specs.Fraction as fraction
+use Rattle.exact_fraction.specs.Fraction.{◌⊕◌, ◌⊗◌, inverse, floor, is_at_most}
+use Rattle.exact_fraction.specs.Number.{◌+ℚ◌, ◌*ℚ◌, inv_ℚ, neg_ℚ, is_at_most_ℚ, floor_ℚ, min_ℚ, max_ℚ}
+use Rattle.decimal18.specs.Bound.{value_of}
+use Rattle.decimal18.specs.Down.{is_in_range, cut_off, down, up}
+use Rattle.decimal18.specs.Literal.{parsed}
+use Rattle.fixed_interval.specs.Interval.{outward}
+use Rattle.fixed_interval.specs.Rules.{quotient, holds_zero}
+use Rattle.fixed_interval.specs.Powers.{power_span}
+use Rattle.formula_ast.specs.Reading.{reading_of}
+use Rattle.formula_box.specs.Values.{span_of}
+use Rattle.sheet_rows.specs.Reading.{row_read}
+use Rattle.value_cache.specs.Evaluations.{evaluation_of}
+use Rattle.script_lines.specs.Commands.{line_read}
+use Rattle.gum_cli.proofs.worked.worked_edits.Goals as goal
+
+pub returns-clause-zero_divisor : goal.returns-clause-zero_divisor
+unfolding digits line_read row_read reading_of parsed span_of evaluation_of outward quotient power_span holds_zero min_ℚ max_ℚ up down cut_off is_in_range value_of ◌+ℚ◌ ◌*ℚ◌ inv_ℚ neg_ℚ is_at_most_ℚ floor_ℚ floor is_at_most inverse ◌⊕◌ ◌⊗◌ fraction.negated /_rec₂ /_rec
+returns-clause-zero_divisor c = refl
+
+pub returns-clause-undo_order : goal.returns-clause-undo_order
+unfolding digits line_read row_read reading_of parsed span_of evaluation_of outward quotient power_span holds_zero min_ℚ max_ℚ up down cut_off is_in_range value_of ◌+ℚ◌ ◌*ℚ◌ inv_ℚ neg_ℚ is_at_most_ℚ floor_ℚ floor is_at_most inverse ◌⊕◌ ◌⊗◌ fraction.negated /_rec₂ /_rec
+returns-clause-undo_order c = refl
+
+pub returns-clause-marks : goal.returns-clause-marks
+unfolding digits line_read row_read reading_of parsed span_of evaluation_of outward quotient power_span holds_zero min_ℚ max_ℚ up down cut_off is_in_range value_of ◌+ℚ◌ ◌*ℚ◌ inv_ℚ neg_ℚ is_at_most_ℚ floor_ℚ floor is_at_most inverse ◌⊕◌ ◌⊗◌ fraction.negated /_rec₂ /_rec
+returns-clause-marks c = refl
