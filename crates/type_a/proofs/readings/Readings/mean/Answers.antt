@@ -1,0 +1,10 @@
+use Rattle.std.proofs.Common.{rules}
+use Rattle.type_a.specs.Tables.{table_of}
+use Rattle.type_a.specs.Statistics.{exact_mean}
+use Rattle.type_a.proofs.InRange.{mean_in_range, never_fails}
+use Rattle.type_a.proofs.readings.Readings.mean.Goals as goal
+
+pub unreachable-requires : goal.unreachable-requires
+unreachable-requires g c =
+    never_fails _ (exact_mean (table_of c.as_slice.result.now) c.args.column) c.ratio.result _ c.in_default.field-0 c.ratio.ensures.span c.in_default.is c.mean-mean.ensures
+    (mean_in_range (table_of c.as_slice.result.now) (search rules) c.args.column (search rules))
