@@ -41,9 +41,19 @@ abbrev pub coefficient_at : ℕ → Bound → ℤ
 coefficient_at p b = b.coefficient *ℤ pos (10 ^ (p - b.places))
 
 -- ---- which tables are taken
+-- the least and the most records, and the most readings of one
+abbrev pub least_records : ℕ
+least_records = 2
+
+abbrev pub most_records : ℕ
+most_records = 1000
+
+abbrev pub most_readings : ℕ
+most_readings = 8
+
 -- the record has not 1 to 8 readings, or not as many as the first one
 abbrev pub is_misshapen : ℕ → Record → Bool
-is_misshapen width r = not (length r == width) || nat_lt (length r) 1 || nat_lt 8 (length r)
+is_misshapen width r = not (length r == width) || nat_lt (length r) 1 || nat_lt most_readings (length r)
 
 -- a magnitude of 10^9 or more, or 10^15 or more units of the place p
 abbrev pub is_wide : ℕ → Bound → Bool
@@ -62,8 +72,8 @@ first_of fault (Some place) later = Some (fault place)
 unfoldable pub refusal : Table → Option ReadingsFault
 refusal t =
     first_of Shape (position_from (is_misshapen (width_of t)) 1 t)
-    (cond (nat_lt (length t) 2) (Some TooFew)
-    (cond (nat_lt 1000 (length t)) (Some TooMany)
+    (cond (nat_lt (length t) least_records) (Some TooFew)
+    (cond (nat_lt most_records (length t)) (Some TooMany)
     (first_of Wide (position_from (has_wide (finest t)) 1 t) None)))
 
 -- the readings, or the refusal

@@ -5,6 +5,9 @@ ghost use Rattle.type_a.specs.Tables.{is_misshapen, has_wide, places_in, finest,
 use crate::coefficients::is_wide;
 use decimal18::Dec;
 
+/// The most readings of a record.
+const MOST_READINGS: usize = 8;
+
 /// How many readings the first record has; 0 where there is none.
 pub fn width(rows: &[Vec<Dec>]) -> usize
     ensures { result ≡ width_of (table_of rows.now) }
@@ -19,15 +22,15 @@ pub fn width(rows: &[Vec<Dec>]) -> usize
 fn is_misshapen(row: &[Dec], width: usize) -> bool
     ensures { result ≡ is_misshapen width row.now }
 {
-    row.len() != width || row.len() < 1 || row.len() > 8
+    row.len() != width || row.is_empty() || row.len() > MOST_READINGS
 }
 
 /// The place, counted from 1, of the first record that has not 1 to 8 readings or not as many as `width`.
 pub fn first_misshapen(rows: &[Vec<Dec>], width: usize) -> Option<usize>
     ensures { result ≡ position_from (is_misshapen width) 1 (table_of rows.now) }
 {
-    for i in 0..rows.len() {
-        if is_misshapen(rows[i].as_slice(), width) {
+    for (i, row) in rows.iter().enumerate() {
+        if is_misshapen(row.as_slice(), width) {
             return Some(i + 1);
         }
     }
@@ -62,20 +65,15 @@ pub fn finest(rows: &[Vec<Dec>]) -> u8
 fn has_wide(row: &[Dec], places: u8) -> bool
     ensures { result ≡ has_wide places row.now }
 {
-    for d in row {
-        if is_wide(*d, places) {
-            return true;
-        }
-    }
-    false
+    row.iter().any(|d| is_wide(*d, places))
 }
 
 /// The place, counted from 1, of the first record with a reading that is too wide.
 pub fn first_wide(rows: &[Vec<Dec>], places: u8) -> Option<usize>
     ensures { result ≡ position_from (has_wide places) 1 (table_of rows.now) }
 {
-    for i in 0..rows.len() {
-        if has_wide(rows[i].as_slice(), places) {
+    for (i, row) in rows.iter().enumerate() {
+        if has_wide(row.as_slice(), places) {
             return Some(i + 1);
         }
     }

@@ -30,6 +30,12 @@ pub enum ReadingsFault {
     OutOfMemory,
 }
 
+/// The least records.
+const LEAST_RECORDS: usize = 2;
+
+/// The most records.
+const MOST_RECORDS: usize = 1000;
+
 /// Joint readings of 1 to 8 quantities: 2 to 1,000 records, each with a reading of every quantity.
 #[derive(Drop, Debug)]
 pub struct Readings {
@@ -73,10 +79,10 @@ impl Readings {
         if let Some(place) = first_misshapen(rows, width(rows)) {
             return Err(ReadingsFault::Shape(place));
         }
-        if rows.len() < 2 {
+        if rows.len() < LEAST_RECORDS {
             return Err(ReadingsFault::TooFew);
         }
-        if rows.len() > 1000 {
+        if rows.len() > MOST_RECORDS {
             return Err(ReadingsFault::TooMany);
         }
         let places = finest(rows);
