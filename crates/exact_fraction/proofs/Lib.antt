@@ -7,3 +7,5 @@ pub mod Signs
 pub mod Extremes
 pub mod PowerLaws
 pub mod SumLaws
+pub mod Within
+pub mod Spread

@@ -1,10 +1,11 @@
 -- The order of the numbers by differences: x ≤ℚ y is had from a number d that is not negative with
 -- x +ℚ d ≡ y (`≤ℚ_by`), where the equation is one call of `ring`.
-use Rattle.std.specs.Prelude.{◌≡◌, false, [], ◌∷◌, ℤ, pos, ◌≤ℤ◌, ◌⊎◌, ◌↔◌, refl}
+use Rattle.std.specs.Prelude.{◌≡◌, false, [], ◌∷◌, ℤ, pos, ◌⊎◌, ◌↔◌, refl}
 use Rattle.std.proofs.Common.{sym, ◌∙◌, ap, subst, inl, inr}
 use Rattle.std.proofs.lemmas.Bool.{true≢false}
+use lib.Signed.{≤ℤ_refl}
 use Rattle.exact_fraction.specs.Number.{ℚ, of_ℤ, ◌+ℚ◌, ◌*ℚ◌, ◌/ℚ◌, neg_ℚ, inv_ℚ, is_zero_ℚ, ◌≤ℚ◌, floor_ℚ}
-use Rattle.exact_fraction.specs.Whole.{le_both, le_same}
+use Rattle.exact_fraction.specs.Whole.{le_both}
 use Rattle.exact_fraction.specs.NumberLaws.{+ℚ-≤ℚ, *ℚ_comm, *ℚ-≤ℚ, *ℚ-inv, ≤ℚ_refl, ≤ℚ_trans, ≤ℚ_same, ≤ℚ_total, ≤ℤ-of_≤ℚ, ≤floor_ℚ, floor_ℚ-≤}
 use Rattle.exact_fraction.proofs.Quotients.{≡-is_zero_ℚ, ≢-is_zero_ℚ, /ℚ-*ℚ, *ℚ-/ℚ}
 use Rattle.exact_fraction.proofs.Ring.{Whole, ◌:+◌, ◌:-◌, ◌:*◌, Minus, x0, x1, x2, ring}
@@ -127,14 +128,11 @@ pub of_ℤ-injective : (a b : ℤ) → of_ℤ a ≡ of_ℤ b → a ≡ b
 of_ℤ-injective a b h =
     le_both a b (≤ℤ-of_≤ℚ a b (≤ℚ_same _ _ h)) (≤ℤ-of_≤ℚ b a (≤ℚ_same _ _ (sym h)))
 
-le_refl : (z : ℤ) → z ≤ℤ z
-le_refl z = le_same z z refl
-
 pub floor_ℚ-of_ℤ : (z : ℤ) → floor_ℚ (of_ℤ z) ≡ z
 floor_ℚ-of_ℤ z =
     le_both (floor_ℚ (of_ℤ z)) z
-    (≤ℤ-of_≤ℚ (floor_ℚ (of_ℤ z)) z (floor_ℚ-≤ (floor_ℚ (of_ℤ z)) (of_ℤ z) (le_refl (floor_ℚ (of_ℤ z)))))
+    (≤ℤ-of_≤ℚ (floor_ℚ (of_ℤ z)) z (floor_ℚ-≤ (floor_ℚ (of_ℤ z)) (of_ℤ z) (≤ℤ_refl _)))
     (≤floor_ℚ z (of_ℤ z) (≤ℚ_refl (of_ℤ z)))
 
 pub floor_ℚ-not_above : (x : ℚ) → of_ℤ (floor_ℚ x) ≤ℚ x
-floor_ℚ-not_above x = floor_ℚ-≤ (floor_ℚ x) x (le_refl (floor_ℚ x))
+floor_ℚ-not_above x = floor_ℚ-≤ (floor_ℚ x) x (≤ℤ_refl _)

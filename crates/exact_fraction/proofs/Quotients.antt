@@ -32,6 +32,11 @@ pub ≢-is_zero_ℚ : (x : ℚ) → (x ≡ of_ℤ (pos 0) → ⊥) → is_zero_�
   by true e = absurd (h (is_zero_ℚ-≡ x e))
   by false e = e
 
+pub positive_not_zero : (n : ℕ) → 0 < n → is_zero_ℚ (of_ℤ (pos n)) ≡ false
+unfolding is_zero_ℚ /_rec
+positive_not_zero zero h = absurd (omega (arith, h))
+positive_not_zero (suc n) h = refl
+
 -- ---- the quotient
 pub /ℚ-*ℚ : (x y : ℚ) → is_zero_ℚ y ≡ false → (x /ℚ y) *ℚ y ≡ x
 /ℚ-*ℚ x y y0 =
@@ -56,18 +61,10 @@ times_den a k = rw (times_one (a *ℤ pos k)) (ap (λ n. a *ℤ pos n) (omega ar
 unfolding ◌⊗◌
 ⊗-den q = record { same = times_den q.num q.den }
 
-positive_not_zero : (k : ℕ) → 0 < k → is_zero_ℤ (pos k) ≡ false
-positive_not_zero zero h = absurd (omega arith)
-positive_not_zero (suc k) h = refl
-
-den_not_zero : (q : Fraction) → is_zero_ℚ (of_ℤ (pos q.den)) ≡ false
-unfolding is_zero_ℚ /_rec
-den_not_zero q = positive_not_zero q.den q.positive
-
 number_of-den : (q : Fraction) → number_of q *ℚ of_ℤ (pos q.den) ≡ of_ℤ q.num
 unfolding ◌*ℚ◌ /_rec₂ /_rec
 number_of-den q = eq/ (q ⊗ whole (pos q.den)) (whole q.num) (⊗-den q)
 
 pub number_of-parts : (q : Fraction) → number_of q ≡ of_ℤ q.num /ℚ of_ℤ (pos q.den)
 number_of-parts q =
-    sym (*ℚ-/ℚ (number_of q) (of_ℤ (pos q.den)) (den_not_zero q)) ∙ ap (λ t. t /ℚ of_ℤ (pos q.den)) (number_of-den q)
+    sym (*ℚ-/ℚ (number_of q) (of_ℤ (pos q.den)) (positive_not_zero q.den q.positive)) ∙ ap (λ t. t /ℚ of_ℤ (pos q.den)) (number_of-den q)

@@ -136,7 +136,7 @@ total env (m ∷ ms) = worth env m +ℚ total env ms
 +ℚ_left_comm : (x y z : ℚ) → x +ℚ (y +ℚ z) ≡ y +ℚ (x +ℚ z)
 +ℚ_left_comm x y z = sym (+ℚ_assoc x y z) ∙ ap (λ t. t +ℚ z) (+ℚ_comm x y) ∙ +ℚ_assoc y x z
 
-zero-+ℚ : (x : ℚ) → of_ℤ (pos 0) +ℚ x ≡ x
+pub zero-+ℚ : (x : ℚ) → of_ℤ (pos 0) +ℚ x ≡ x
 zero-+ℚ x = +ℚ_comm _ x ∙ +ℚ-zero x
 
 one-*ℚ : (x : ℚ) → of_ℤ (pos 1) *ℚ x ≡ x

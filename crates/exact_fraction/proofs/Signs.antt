@@ -1,11 +1,11 @@
 -- Numbers that are not negative, and products that are 0.
-use Rattle.std.specs.Prelude.{◌≡◌, ℕ, Bool, true, false, List, [], ◌∷◌, pos, refl}
+use Rattle.std.specs.Prelude.{◌≡◌, ℕ, suc, ◌+◌, ◌*◌, ◌≤◌, Bool, true, false, List, [], ◌∷◌, pos, refl}
 use Rattle.std.proofs.Common.{sym, ◌∙◌, ap, arith}
 use Rattle.std.proofs.lemmas.Int.{ints}
 use std.Quotient.{/_rec}
 use Rattle.exact_fraction.specs.Fraction.{inverse}
-use Rattle.exact_fraction.specs.Number.{ℚ, of_ℤ, ◌*ℚ◌, inv_ℚ, is_zero_ℚ, ◌≤ℚ◌}
-use Rattle.exact_fraction.specs.NumberLaws.{≤ℚ_refl, ≤ℚ_same, of_ℤ-≤ℚ, *ℚ-inv}
+use Rattle.exact_fraction.specs.Number.{ℚ, of_ℤ, ◌+ℚ◌, ◌*ℚ◌, inv_ℚ, is_zero_ℚ, ◌≤ℚ◌}
+use Rattle.exact_fraction.specs.NumberLaws.{≤ℚ_refl, ≤ℚ_same, of_ℤ-≤ℚ, of_ℤ-+, of_ℤ-*, *ℚ-inv}
 use Rattle.exact_fraction.specs.Sums.{total}
 use Rattle.exact_fraction.proofs.Quotients.{is_zero_ℚ-≡}
 use Rattle.exact_fraction.proofs.OrderLaws.{≤ℚ_right, *ℚ-≤ℚ_left, +ℚ-not_negative, inv_ℚ-not_negative}
@@ -17,6 +17,21 @@ not_negative-same x y e h = ≤ℚ_right _ y x (sym e) h
 
 pub whole-not_negative : (n : ℕ) → of_ℤ (pos 0) ≤ℚ of_ℤ (pos n)
 whole-not_negative n = of_ℤ-≤ℚ (pos 0) (pos n) (omega (arith, ints))
+
+-- order, sums and products of whole numbers that are not negative
+pub of_pos-≤ℚ : (a b : ℕ) → a ≤ b → of_ℤ (pos a) ≤ℚ of_ℤ (pos b)
+of_pos-≤ℚ a b h = of_ℤ-≤ℚ (pos a) (pos b) (omega (arith, ints, h))
+
+pub of_pos-+ : (a b : ℕ) → of_ℤ (pos (a + b)) ≡ of_ℤ (pos a) +ℚ of_ℤ (pos b)
+of_pos-+ a b = of_ℤ-+ (pos a) (pos b)
+
+pub of_pos-suc : (n : ℕ) → of_ℤ (pos (suc n)) ≡ of_ℤ (pos 1) +ℚ of_ℤ (pos n)
+of_pos-suc n =
+    let e : suc n ≡ 1 + n = omega arith in
+    ap (λ k. of_ℤ (pos k)) e ∙ of_pos-+ 1 n
+
+pub of_pos-* : (a b : ℕ) → of_ℤ (pos (a * b)) ≡ of_ℤ (pos a) *ℚ of_ℤ (pos b)
+of_pos-* a b = of_ℤ-* (pos a) (pos b)
 
 zero-inv : inv_ℚ (of_ℤ (pos 0)) ≡ of_ℤ (pos 0)
 unfolding inv_ℚ /_rec inverse

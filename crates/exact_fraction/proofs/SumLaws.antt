@@ -1,12 +1,13 @@
 -- Lemmas on sums over lists.
-use Rattle.std.specs.Prelude.{◌≡◌, ℕ, suc, ◌+◌, ◌<◌, ◌≤◌, List, [], ◌∷◌, ◌++◌, length, map, pos, refl}
-use Rattle.std.proofs.Common.{sym, ◌∙◌, ap, arith, drop}
+use Rattle.std.specs.Prelude.{◌≡◌, ℕ, zero, suc, ◌+◌, ◌<◌, ◌≤◌, List, [], ◌∷◌, ◌++◌, length, map, pos, refl}
+use Rattle.std.proofs.Common.{sym, ◌∙◌, ap, ap₂, arith, drop}
 use Rattle.std.proofs.lemmas.List.{drop_more, drop_all}
 use Rattle.std.proofs.Math.ListN.{get_or}
 use Rattle.std.proofs.Math.Path.{fun_ext}
 use Rattle.exact_fraction.specs.Number.{ℚ, of_ℤ, ◌+ℚ◌, ◌*ℚ◌}
+use Rattle.exact_fraction.specs.NumberLaws.{+ℚ-zero}
 use Rattle.exact_fraction.specs.Sums.{total, below}
-use Rattle.exact_fraction.proofs.Ring.{Whole, ◌:+◌, ◌:*◌, x0, x1, x2, x3, ring}
+use Rattle.exact_fraction.proofs.Ring.{Whole, ◌:+◌, ◌:*◌, x0, x1, x2, x3, zero-+ℚ, ring}
 
 pub total-same : {A : Type 0} (f g : A → ℚ) (xs : List A) → ((x : A) → f x ≡ g x) → total f xs ≡ total g xs
 total-same f g xs h = ap (λ k. total k xs) (fun_ext h)
@@ -53,13 +54,6 @@ total-swap f (x ∷ xs) ys =
     ap (λ t. total (λ y. f x y) ys +ℚ t) (total-swap f xs ys)
     ∙ sym (total-plus (λ y. f x y) (λ y. total (λ x. f x y) xs) ys)
 
--- ---- by one step after another
-pub zero_plus : (x : ℚ) → of_ℤ (pos 0) +ℚ x ≡ x
-zero_plus x = ring (x ∷ []) (Whole (pos 0) :+ x0) x0 refl
-
-pub plus_zero : (x : ℚ) → x +ℚ of_ℤ (pos 0) ≡ x
-plus_zero x = ring (x ∷ []) (x0 :+ Whole (pos 0)) x0 refl
-
 -- ---- the numbers below n
 pub below_zero : (f : ℕ → ℚ) (s : ℚ) → s ≡ of_ℤ (pos 0) → s ≡ total f (below 0)
 unfolding total below
@@ -71,10 +65,15 @@ below_next f k s t e h =
     let g : suc k ≡ k + 1 = omega arith in
     h ∙ ap (λ x. f k +ℚ x) e ∙ ap (λ n. total f (below n)) g
 
+pub below_same : (f g : ℕ → ℚ) (n : ℕ) → ((i : ℕ) → i < n → f i ≡ g i) → total f (below n) ≡ total g (below n)
+unfolding total below
+below_same f g zero h = refl
+below_same f g (suc n) h = ap₂ ◌+ℚ◌ (h n (omega arith)) (below_same f g n (λ i l. h i (omega (arith, l))))
+
 -- ---- a list, of which the last part is still to come
 pub none_yet : {A B : Type 0} (f : B → ℚ) (v : A → B) (xs : List A) (s : ℚ) → s ≡ of_ℤ (pos 0)
     → s +ℚ total f (map v (drop 0 xs)) ≡ total f (map v xs)
-none_yet f v xs s e = ap (λ t. t +ℚ total f (map v xs)) e ∙ zero_plus _
+none_yet f v xs s e = ap (λ t. t +ℚ total f (map v xs)) e ∙ zero-+ℚ _
 
 after_first : {A B : Type 0} (f : B → ℚ) (v : A → B) (x : A) (xs : List A) → total f (map v (x ∷ xs)) ≡ f (v x) +ℚ total f (map v xs)
 unfolding total
@@ -96,4 +95,4 @@ at_end f v = refl
 pub all_summed : {A B : Type 0} (f : B → ℚ) (v : A → B) (xs : List A) (k : ℕ) (s t : ℚ) → length xs ≤ k
     → s +ℚ total f (map v (drop k xs)) ≡ t → s ≡ t
 all_summed f v xs k s t l h =
-    sym (plus_zero s) ∙ ap (λ u. s +ℚ u) (sym (at_end f v)) ∙ ap (λ ys. s +ℚ total f (map v ys)) (sym (drop_all k xs l)) ∙ h
+    sym (+ℚ-zero s) ∙ ap (λ u. s +ℚ u) (sym (at_end f v)) ∙ ap (λ ys. s +ℚ total f (map v ys)) (sym (drop_all k xs l)) ∙ h

@@ -6,8 +6,8 @@ use Rattle.std.proofs.lemmas.Bool.{true≢false, and_from}
 use Rattle.std.proofs.lemmas.List.{append_assoc}
 use Rattle.exact_fraction.specs.Number.{ℚ, of_ℤ, ◌+ℚ◌, ◌*ℚ◌}
 use Rattle.exact_fraction.specs.Sums.{total}
-use Rattle.exact_fraction.proofs.Ring.{Whole, ◌:+◌, ◌:*◌, x0, x1, x2, ring}
-use Rattle.exact_fraction.proofs.SumLaws.{total-same, total-zero, total-times, total-append, zero_plus, plus_zero}
+use Rattle.exact_fraction.proofs.Ring.{Whole, ◌:+◌, ◌:*◌, x0, x1, x2, zero-+ℚ, ring}
+use Rattle.exact_fraction.proofs.SumLaws.{total-same, total-zero, total-times, total-append}
 use Rattle.exact_law.specs.Model.{IsSameTest, unit, absent, once}
 use Rattle.exact_law.specs.Law.{Column, Group, Own, Pair, Joint, joint, cell, covariance_in, covariance, members, all_members, stand_in, PartTheInputs, OnceAmong}
 use Rattle.exact_law.proofs.Tests.{and_left, and_right}
@@ -130,7 +130,7 @@ rows-absent same law n (a ∷ xs) ys i j h =
     (total-same _ (λ b. of_ℤ (pos 0)) ys
     (λ b. cell-left same a.key b.key (joint n a.reading b.reading) i j (unit-absent same law i a.key (first_absent same i a.key (keys_of xs) h))) ∙ total-zero ys)
     (rows-absent same law n xs ys i j (rest_absent same i a.key (keys_of xs) h))
-    ∙ zero_plus _
+    ∙ zero-+ℚ _
 
 row-absent : {K : Type 0} (same : K → K → Bool) → IsSameTest same → (n : ℕ) (a : Column K) (ys : List (Column K)) (i j : K) → absent same j (keys_of ys) ≡ true
     → total (λ b. cell same a.key b.key (joint n a.reading b.reading) i j) ys ≡ of_ℤ (pos 0)
@@ -140,7 +140,7 @@ row-absent same law n a (b ∷ ys) i j h =
     ap₂ ◌+ℚ◌
     (cell-right same a.key b.key (joint n a.reading b.reading) i j (unit-absent same law j b.key (first_absent same j b.key (keys_of ys) h)))
     (row-absent same law n a ys i j (rest_absent same j b.key (keys_of ys) h))
-    ∙ zero_plus _
+    ∙ zero-+ℚ _
 
 -- no covariance with an input that is no member
 left_absent : {K : Type 0} (same : K → K → Bool) → IsSameTest same → (g : Group K) (i j : K) → absent same i (members g) ≡ true
@@ -171,7 +171,7 @@ groups_absent same law [] i j h = refl
 groups_absent same law (g ∷ gs) i j h =
     ap₂ ◌+ℚ◌ (left_absent same law g i j (absent-append_left same i (members g) (all_members gs) h))
     (groups_absent same law gs i j (absent-append_right same i (members g) (all_members gs) h))
-    ∙ zero_plus _
+    ∙ zero-+ℚ _
 
 -- ---- the covariance is that of the input's own group
 pub own_group : {K : Type 0} (same : K → K → Bool) → IsSameTest same → (inputs : List K) (before after : List (Group K)) (g : Group K)
@@ -251,7 +251,7 @@ units_absent same law k f (x ∷ xs) h =
     ap₂ ◌+ℚ◌
     (ap (λ t. t *ℚ f x) (unit-absent same law k x.key (first_absent same k x.key (keys_of xs) h)) ∙ ring (f x ∷ []) (Whole (pos 0) :* x0) (Whole (pos 0)) refl)
     (units_absent same law k f xs (rest_absent same k x.key (keys_of xs) h))
-    ∙ zero_plus _
+    ∙ zero-+ℚ _
 
 picked : {K : Type 0} (same : K → K → Bool) → IsSameTest same → (a : Column K) (f : Column K → ℚ) (columns : List (Column K)) → OnceAmong same a columns
     → total (λ x. unit same a.key x.key *ℚ f x) columns ≡ f a

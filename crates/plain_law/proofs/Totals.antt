@@ -4,9 +4,9 @@ use Rattle.std.proofs.Common.{sym, ◌∙◌, ap, arith, drop}
 use Rattle.std.proofs.lemmas.List.{drop_more, drop_all}
 use Rattle.std.proofs.Math.ListN.{get_or}
 use Rattle.exact_fraction.specs.Number.{ℚ, of_ℤ, ◌+ℚ◌}
+use Rattle.exact_fraction.specs.NumberLaws.{+ℚ-zero}
 use Rattle.exact_fraction.specs.Sums.{total}
-use Rattle.exact_fraction.proofs.Ring.{◌:+◌, x0, x1, x2, ring}
-use Rattle.exact_fraction.proofs.SumLaws.{zero_plus, plus_zero}
+use Rattle.exact_fraction.proofs.Ring.{◌:+◌, x0, x1, x2, zero-+ℚ, ring}
 use Rattle.exact_law.specs.Law.{inputs_with, inputs_of}
 use Rattle.plain_law.specs.declared.model.Body.{Body}
 use Rattle.plain_law.specs.declared.model.Body.TheVariants.{Input, Formula}
@@ -15,13 +15,13 @@ use Rattle.plain_law.specs.Groups.{if_input}
 
 pub no_input_yet : (f : ℕ → ℚ) (bs : List Body) (s : ℚ) → s ≡ of_ℤ (pos 0)
     → s +ℚ total f (inputs_of (rows_from 0 (drop 0 bs))) ≡ total f (inputs_of (rows bs))
-no_input_yet f bs s e = ap (λ t. t +ℚ total f (inputs_of (rows bs))) e ∙ zero_plus _
+no_input_yet f bs s e = ap (λ t. t +ℚ total f (inputs_of (rows bs))) e ∙ zero-+ℚ _
 
 after_row : (f : ℕ → ℚ) (k : ℕ) (b : Body) (bs : List Body)
     → total f (inputs_of (rows_from k (b ∷ bs))) ≡ if_input b (f k) +ℚ total f (inputs_of (rows_from (suc k) bs))
 unfolding total inputs_of inputs_with rows_from
 after_row f k (Input q) bs = refl
-after_row f k (Formula g) bs = sym (zero_plus _)
+after_row f k (Formula g) bs = sym (zero-+ℚ _)
 
 pub one_more_row : (f : ℕ → ℚ) (bs : List Body) (k : ℕ) (b : Body) (s s' t : ℚ) → k < length bs → get_or bs k b ≡ b
     → s +ℚ total f (inputs_of (rows_from k (drop k bs))) ≡ t → s' ≡ s +ℚ if_input b (f k)
@@ -42,4 +42,4 @@ no_inputs f k = refl
 pub all_inputs : (f : ℕ → ℚ) (bs : List Body) (k : ℕ) (s t : ℚ) → length bs ≤ k
     → s +ℚ total f (inputs_of (rows_from k (drop k bs))) ≡ t → s ≡ t
 all_inputs f bs k s t l h =
-    sym (plus_zero s) ∙ ap (λ u. s +ℚ u) (sym (no_inputs f k)) ∙ ap (λ ys. s +ℚ total f (inputs_of (rows_from k ys))) (sym (drop_all k bs l)) ∙ h
+    sym (+ℚ-zero s) ∙ ap (λ u. s +ℚ u) (sym (no_inputs f k)) ∙ ap (λ ys. s +ℚ total f (inputs_of (rows_from k ys))) (sym (drop_all k bs l)) ∙ h
