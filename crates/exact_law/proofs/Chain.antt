@@ -3,13 +3,12 @@
 -- that one double sum, read in two ways, ties them together.
 use Rattle.std.specs.Prelude.{◌≡◌, Bool, true, false, cond, not, ◌&&◌, List, [], ◌∷◌, pos, negsuc, refl}
 use Rattle.std.proofs.Common.{sym, ◌∙◌, ap, ap₂}
-use Rattle.std.proofs.lemmas.Bool.{true≢false}
+use Rattle.std.proofs.lemmas.Bool.{and_parts, true≢false}
 use Rattle.exact_fraction.specs.Number.{ℚ, of_ℤ, ◌+ℚ◌, ◌*ℚ◌, neg_ℚ, inv_ℚ, ◌-ℚ◌}
 use Rattle.exact_fraction.proofs.Ring.{Whole, ◌:+◌, ◌:*◌, Minus, x0, x1, x2, ring}
 use Rattle.exact_fraction.specs.Sums.{total}
 use Rattle.exact_law.specs.Model.{Expression, Num, Key, Neg, Add, Sub, Mul, Div, Pow, value, power_slope, slope, is_defined, replaced, Row, IsSameTest, unit, partial, brought, IsBackward, keys, absent, once, uses_only}
 use Rattle.exact_fraction.proofs.SumLaws.{total-same, total-zero, total-plus, total-times, total-times_right, total-swap}
-use Rattle.exact_law.proofs.Tests.{and_left, and_right}
 
 -- ---- value and derivative of an expression in which keys are replaced: row by row is the expansion
 pub value-replaced : {K L : Type 0} (v : L → ℚ) (s : K → Expression L) (f : Expression K)
@@ -128,26 +127,26 @@ slope-along same law v d ns (Neg a) h =
     along-neg d (λ n. slope v (unit same n) a) ns ∙ ap neg_ℚ (slope-along same law v d ns a h)
 slope-along same law v d ns (Add a b) h =
     along-plus d (λ n. slope v (unit same n) a) (λ n. slope v (unit same n) b) ns
-    ∙ ap₂ ◌+ℚ◌ (slope-along same law v d ns a (and_left _ _ h)) (slope-along same law v d ns b (and_right _ _ h))
+    ∙ ap₂ ◌+ℚ◌ (slope-along same law v d ns a (and_parts _ _ h).0) (slope-along same law v d ns b (and_parts _ _ h).1)
 slope-along same law v d ns (Sub a b) h =
     along-plus d (λ n. slope v (unit same n) a) (λ n. neg_ℚ (slope v (unit same n) b)) ns
-    ∙ ap₂ ◌+ℚ◌ (slope-along same law v d ns a (and_left _ _ h))
-    (along-neg d (λ n. slope v (unit same n) b) ns ∙ ap neg_ℚ (slope-along same law v d ns b (and_right _ _ h)))
+    ∙ ap₂ ◌+ℚ◌ (slope-along same law v d ns a (and_parts _ _ h).0)
+    (along-neg d (λ n. slope v (unit same n) b) ns ∙ ap neg_ℚ (slope-along same law v d ns b (and_parts _ _ h).1))
 slope-along same law v d ns (Mul a b) h =
     along-plus d (λ n. slope v (unit same n) a *ℚ value v b) (λ n. value v a *ℚ slope v (unit same n) b) ns
     ∙ ap₂ ◌+ℚ◌
     (along-times_right d (λ n. slope v (unit same n) a) (value v b) ns
-    ∙ ap (λ t. t *ℚ value v b) (slope-along same law v d ns a (and_left _ _ h)))
+    ∙ ap (λ t. t *ℚ value v b) (slope-along same law v d ns a (and_parts _ _ h).0))
     (along-times d (value v a) (λ n. slope v (unit same n) b) ns
-    ∙ ap (λ t. value v a *ℚ t) (slope-along same law v d ns b (and_right _ _ h)))
+    ∙ ap (λ t. value v a *ℚ t) (slope-along same law v d ns b (and_parts _ _ h).1))
 slope-along same law v d ns (Div a b) h =
     along-times_right d (λ n. slope v (unit same n) a -ℚ (value v (Div a b) *ℚ slope v (unit same n) b)) (inv_ℚ (value v b)) ns
     ∙ ap (λ t. t *ℚ inv_ℚ (value v b))
     (along-plus d (λ n. slope v (unit same n) a) (λ n. neg_ℚ (value v (Div a b) *ℚ slope v (unit same n) b)) ns
-    ∙ ap₂ ◌+ℚ◌ (slope-along same law v d ns a (and_left _ _ h))
+    ∙ ap₂ ◌+ℚ◌ (slope-along same law v d ns a (and_parts _ _ h).0)
     (along-neg d (λ n. value v (Div a b) *ℚ slope v (unit same n) b) ns
     ∙ ap neg_ℚ (along-times d (value v (Div a b)) (λ n. slope v (unit same n) b) ns
-    ∙ ap (λ t. value v (Div a b) *ℚ t) (slope-along same law v d ns b (and_right _ _ h)))))
+    ∙ ap (λ t. value v (Div a b) *ℚ t) (slope-along same law v d ns b (and_parts _ _ h).1))))
 slope-along same law v d ns (Pow a k) h =
     along-times d (power_slope (value v a) k) (λ n. slope v (unit same n) a) ns
     ∙ ap (λ t. power_slope (value v a) k *ℚ t) (slope-along same law v d ns a h)

@@ -1,11 +1,10 @@
 -- Values, derivatives and sensitivities row by row are those of the expansion.
 use Rattle.std.specs.Prelude.{◌≡◌, Bool, true, false, cond, not, ◌&&◌, Some, List, [], ◌∷◌, pos, refl}
 use Rattle.std.proofs.Common.{sym, ◌∙◌, ap, ap₂, subst}
-use Rattle.std.proofs.lemmas.Bool.{true≢false}
+use Rattle.std.proofs.lemmas.Bool.{and_parts, true≢false}
 use Rattle.exact_fraction.specs.Number.{ℚ, of_ℤ, ◌+ℚ◌}
 use Rattle.exact_fraction.proofs.Ring.{Whole, ◌:+◌, x0, ring}
 use Rattle.exact_law.specs.Model.{Expression, Num, Key, Neg, Add, Sub, Mul, Div, Pow, value, slope, is_defined, replaced, Body, Input, Formula, Row, IsSameTest, body_of, estimate, is_input, replaced_body, expanded, unit, exact_value, exact_slope, has_value, body_partial, partial, sweep, IsBackward, keys, absent, once, uses_only, body_uses_only, is_order, AreOf}
-use Rattle.exact_law.proofs.Tests.{and_left, and_right}
 use Rattle.exact_law.proofs.Chain.{value-replaced, slope-replaced, is_defined-replaced, along, along-zero, along-once, along-absent, slope-along, AllRows, AllRows-map, IsForward, forward_backward}
 use Rattle.exact_law.proofs.Rows.{unused_key, brought-absent, sweep-brought, order-absent, order-uses, order-rest, of_key, IsExpanded, IsExpanded-rows}
 
@@ -68,13 +67,13 @@ uses_more same law m ns a (Key n) h = by (same m n) refl where
   by false e = h
 uses_more same law m ns a (Neg f) h = uses_more same law m ns a f h
 uses_more same law m ns a (Add f g) h =
-    rw (uses_more same law m ns a f (and_left _ _ h)) (uses_more same law m ns a g (and_right _ _ h))
+    rw (uses_more same law m ns a f (and_parts _ _ h).0) (uses_more same law m ns a g (and_parts _ _ h).1)
 uses_more same law m ns a (Sub f g) h =
-    rw (uses_more same law m ns a f (and_left _ _ h)) (uses_more same law m ns a g (and_right _ _ h))
+    rw (uses_more same law m ns a f (and_parts _ _ h).0) (uses_more same law m ns a g (and_parts _ _ h).1)
 uses_more same law m ns a (Mul f g) h =
-    rw (uses_more same law m ns a f (and_left _ _ h)) (uses_more same law m ns a g (and_right _ _ h))
+    rw (uses_more same law m ns a f (and_parts _ _ h).0) (uses_more same law m ns a g (and_parts _ _ h).1)
 uses_more same law m ns a (Div f g) h =
-    rw (uses_more same law m ns a f (and_left _ _ h)) (uses_more same law m ns a g (and_right _ _ h))
+    rw (uses_more same law m ns a f (and_parts _ _ h).0) (uses_more same law m ns a g (and_parts _ _ h).1)
 uses_more same law m ns a (Pow f k) h = uses_more same law m ns a f h
 
 body_uses_more : {K : Type 0} (same : K → K → Bool) → IsSameTest same → (m : K) (ns : List K) → absent same m ns ≡ true

@@ -3,17 +3,17 @@ use Rattle.std.specs.Prelude.{◌≡◌, ℕ, zero, suc, ◌+◌, ◌*◌, ◌�
 use Rattle.std.proofs.Common.{sym, ◌∙◌, ap, subst, arith, inl, inr}
 use Rattle.std.proofs.lemmas.Int.{ints}
 use Rattle.std.proofs.lemmas.Bool.Decides.{nat_tests}
-use std.Quotient.{/_rec, /_rec₂}
+use std.Quotient.{/_rec₂}
 use Rattle.exact_fraction.specs.Fraction.{is_at_most}
 use Rattle.exact_fraction.specs.Number.{ℚ, of_ℤ, ◌+ℚ◌, ◌*ℚ◌, neg_ℚ, inv_ℚ, is_zero_ℚ, is_at_most_ℚ, ◌≤ℚ◌, floor_ℚ, ◌<ℚ◌}
-use Rattle.exact_fraction.specs.NumberLaws.{≤ℚ_trans, ≤ℚ_same, ≤ℚ_total, *ℚ_comm, *ℚ-≤ℚ, of_ℤ-≤ℚ, of_ℤ-+, ≤floor_ℚ}
+use Rattle.exact_fraction.specs.NumberLaws.{≤ℚ_trans, ≤ℚ_same, ≤ℚ_total, *ℚ_comm, *ℚ-≤ℚ, of_ℤ-≤ℚ, ≤floor_ℚ}
 use Rattle.exact_fraction.proofs.OrderLaws.{≤ℚ_left, ≤ℚ_right, ≤ℚ_by, ≤ℚ_cancel, ≤ℚ-difference, +ℚ-not_negative, *ℚ-not_negative}
-use Rattle.exact_fraction.proofs.Quotients.{≢-is_zero_ℚ, /ℚ-*ℚ}
+use Rattle.exact_fraction.proofs.Quotients.{positive_not_zero, ≢-is_zero_ℚ, /ℚ-*ℚ}
 use Rattle.exact_fraction.proofs.Ring.{Whole, ◌:+◌, ◌:-◌, ◌:*◌, x0, x1, ring}
 use Rattle.exact_fraction.specs.Powers.{power}
 use Rattle.exact_law.specs.Rounding.{ten_to, least_root, scaled_square, IsTwoDigits}
 use Rattle.exact_fraction.proofs.Strict.{below_not, below_by, below_or_not, ≤ℚ-<ℚ, <ℚ-≤ℚ, below_at_most}
-use Rattle.exact_fraction.proofs.Signs.{whole-not_negative, times-≤ℚ}
+use Rattle.exact_fraction.proofs.Signs.{whole-not_negative, of_pos-suc, times-≤ℚ}
 use Rattle.exact_law.proofs.RoundingLaws.{next_square, scaled_square-not_negative}
 
 -- ---- the first of rising bounds that is above x
@@ -39,11 +39,6 @@ whole_above x = by (floor_ℚ x +ℤ pos 1) refl where
   by (negsuc n) h = (0, ≤ℚ_trans x (of_ℤ (negsuc n)) (of_ℤ (pos 0)) (subst (λ t. x ≤ℚ of_ℤ t) h above) (of_ℤ-≤ℚ (negsuc n) (pos 0) (omega (arith, ints))))
 
 -- ---- the place
-two_more : (k : ℕ) → of_ℤ (pos (suc k)) ≡ of_ℤ (pos 1) +ℚ of_ℤ (pos k)
-two_more k = ap of_ℤ (one_more k) ∙ of_ℤ-+ (pos 1) (pos k) where
-  one_more : (k : ℕ) → pos (suc k) ≡ (pos 1 +ℤ pos k)
-  one_more k = omega (arith, ints)
-
 same_place : (e : ℤ) → (e +ℤ pos 0) ≡ e
 same_place e = omega (arith, ints)
 
@@ -58,11 +53,11 @@ grows r e (suc k) =
     ≤ℚ_trans _ (of_ℤ (pos 100) *ℚ (of_ℤ (pos (suc k)) *ℚ scaled_square r e)) _
     (≤ℚ_by _ _ ((of_ℤ (pos 98) +ℚ of_ℤ (pos 99) *ℚ of_ℤ (pos k)) *ℚ scaled_square r e)
     (ap (λ t. (t *ℚ scaled_square r e) +ℚ ((of_ℤ (pos 98) +ℚ of_ℤ (pos 99) *ℚ of_ℤ (pos k)) *ℚ scaled_square r e))
-    (two_more (suc k) ∙ ap (λ t. of_ℤ (pos 1) +ℚ t) (two_more k))
+    (of_pos-suc (suc k) ∙ ap (λ t. of_ℤ (pos 1) +ℚ t) (of_pos-suc k))
     ∙ ring (scaled_square r e ∷ of_ℤ (pos k) ∷ [])
     ((Whole (pos 1) :+ (Whole (pos 1) :+ x1)) :* x0 :+ (Whole (pos 98) :+ Whole (pos 99) :* x1) :* x0)
     (Whole (pos 100) :* ((Whole (pos 1) :+ x1) :* x0)) refl
-    ∙ ap (λ t. of_ℤ (pos 100) *ℚ (t *ℚ scaled_square r e)) (sym (two_more k)))
+    ∙ ap (λ t. of_ℤ (pos 100) *ℚ (t *ℚ scaled_square r e)) (sym (of_pos-suc k)))
     (*ℚ-not_negative _ _
     (+ℚ-not_negative _ _ (whole-not_negative 98) (*ℚ-not_negative _ _ (whole-not_negative 99) (whole-not_negative k)))
     (scaled_square-not_negative r e)))
@@ -74,10 +69,6 @@ at_zero : scaled_square 199 (pos 0) ≡ of_ℤ (pos 39601)
 unfolding scaled_square ten_to power
 at_zero = ring [] (Whole (pos 39601) :* (Whole (pos 1) :* Whole (pos 1))) (Whole (pos 39601)) refl
 
-suc_not_zero : (k : ℕ) → is_zero_ℚ (of_ℤ (pos (suc k))) ≡ false
-unfolding is_zero_ℚ /_rec
-suc_not_zero k = refl
-
 back : (k : ℕ) → (neg_ℤ (pos k) +ℤ pos k) ≡ pos 0
 back k = omega (arith, ints)
 
@@ -85,7 +76,7 @@ back k = omega (arith, ints)
 low_place : (v : ℚ) (k : ℕ) → of_ℤ (pos 0) ≤ℚ v → of_ℤ (pos 100) ≤ℚ of_ℤ (pos k) *ℚ v
     → scaled_square 199 (neg_ℤ (pos k)) ≤ℚ of_ℤ (pos 400) *ℚ v
 low_place v k v0 h =
-    ≤ℚ_cancel _ _ (of_ℤ (pos (suc k))) (whole-not_negative (suc k)) (suc_not_zero k)
+    ≤ℚ_cancel _ _ (of_ℤ (pos (suc k))) (whole-not_negative (suc k)) (positive_not_zero (suc k) (omega arith))
     (≤ℚ_left _ (of_ℤ (pos (suc k)) *ℚ scaled_square 199 (neg_ℤ (pos k))) _ (*ℚ_comm _ _)
     (≤ℚ_trans _ (scaled_square 199 (neg_ℤ (pos k) +ℤ pos k)) _ (grows 199 (neg_ℤ (pos k)) k)
     (≤ℚ_left _ (of_ℤ (pos 39601)) _ (ap (scaled_square 199) (back k) ∙ at_zero)
@@ -95,7 +86,7 @@ low_place v k v0 h =
     (times-≤ℚ 400 _ _ h))
     (≤ℚ_by _ _ (of_ℤ (pos 400) *ℚ v)
     (ring (v ∷ of_ℤ (pos k) ∷ []) (Whole (pos 400) :* (x1 :* x0) :+ Whole (pos 400) :* x0) ((Whole (pos 400) :* x0) :* (Whole (pos 1) :+ x1)) refl
-    ∙ ap (λ t. (of_ℤ (pos 400) *ℚ v) *ℚ t) (sym (two_more k)))
+    ∙ ap (λ t. (of_ℤ (pos 400) *ℚ v) *ℚ t) (sym (of_pos-suc k)))
     (*ℚ-not_negative _ _ (whole-not_negative 400) v0))))))
 
 zero_below : of_ℤ (pos 0) <ℚ of_ℤ (pos 39601)
@@ -113,7 +104,7 @@ high_place v k h =
     ≤ℚ-<ℚ _ (of_ℤ (pos 400) *ℚ of_ℤ (pos k)) _ (times-≤ℚ 400 _ _ h)
     (below_by _ _ (λ g. below_not (of_ℤ (pos 0)) (of_ℤ (pos 39601) +ℚ of_ℤ (pos 39201) *ℚ of_ℤ (pos k)) (positive k)
     (≤ℚ_by _ _ (of_ℤ (pos 400) *ℚ of_ℤ (pos k) +ℚ neg_ℚ (of_ℤ (pos (suc k)) *ℚ of_ℤ (pos 39601)))
-    (ap (λ t. (of_ℤ (pos 39601) +ℚ of_ℤ (pos 39201) *ℚ of_ℤ (pos k)) +ℚ (of_ℤ (pos 400) *ℚ of_ℤ (pos k) +ℚ neg_ℚ (t *ℚ of_ℤ (pos 39601)))) (two_more k)
+    (ap (λ t. (of_ℤ (pos 39601) +ℚ of_ℤ (pos 39201) *ℚ of_ℤ (pos k)) +ℚ (of_ℤ (pos 400) *ℚ of_ℤ (pos k) +ℚ neg_ℚ (t *ℚ of_ℤ (pos 39601)))) (of_pos-suc k)
     ∙ ring (of_ℤ (pos k) ∷ [])
     ((Whole (pos 39601) :+ Whole (pos 39201) :* x0) :+ (Whole (pos 400) :* x0 :- ((Whole (pos 1) :+ x0) :* Whole (pos 39601)))) (Whole (pos 0)) refl)
     (≤ℚ-difference _ _ (≤ℚ_trans _ (scaled_square 199 (pos k)) _ (grows_from_zero k) g))))) where

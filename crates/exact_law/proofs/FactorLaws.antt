@@ -1,14 +1,12 @@
 -- The factor of Table G.2 falls as the degrees of freedom grow.
-use Rattle.std.specs.Prelude.{◌≡◌, ℕ, ◌≤◌, ◌≤ℤ◌, Bool, true, false, cond, ◌&&◌, nat_le, List, [], ◌∷◌, pos, refl}
-use Rattle.std.proofs.Common.{sym, ◌∙◌, ap, arith}
-use Rattle.std.proofs.lemmas.Bool.{true≢false}
-use Rattle.std.proofs.lemmas.Int.{ints}
-use Rattle.std.proofs.lemmas.Bool.Decides.{nat_tests}
+use Rattle.std.specs.Prelude.{◌≡◌, ℕ, ◌≤◌, Bool, true, false, cond, ◌&&◌, nat_le, List, [], ◌∷◌, pos, refl}
+use Rattle.std.proofs.Common.{sym, ◌∙◌, ap}
+use Rattle.std.proofs.lemmas.Bool.{and_parts, leb-true, true≢false}
+use Rattle.std.proofs.Math.Nat.{le_refl, le_trans}
 use Rattle.exact_fraction.specs.Number.{ℚ, of_ℤ, inv_ℚ, is_at_most_ℚ, ◌≤ℚ◌}
-use Rattle.exact_fraction.specs.NumberLaws.{≤ℚ_trans, *ℚ-≤ℚ, of_ℤ-≤ℚ}
+use Rattle.exact_fraction.specs.NumberLaws.{≤ℚ_trans, *ℚ-≤ℚ}
 use Rattle.exact_law.specs.Degrees.{Level, Percent95, Percent9545, Percent99, Factors, row, thousandths, first_row, later_rows, infinite_row, factor_in, row_at, row_of, factor, InfiniteDegrees, FiniteDegrees}
-use Rattle.exact_law.proofs.Tests.{and_left, and_right}
-use Rattle.exact_fraction.proofs.Signs.{whole-not_negative, inv-not_negative}
+use Rattle.exact_fraction.proofs.Signs.{of_pos-≤ℚ, whole-not_negative, inv-not_negative}
 
 -- the factors fall from row to row, down to n
 falls : ℕ → Level → Factors → List Factors → Bool
@@ -21,30 +19,21 @@ table-falls Percent95 = refl
 table-falls Percent9545 = refl
 table-falls Percent99 = refl
 
-le_of : (m n : ℕ) → nat_le m n ≡ true → m ≤ n
-le_of m n h = grind (arith, nat_tests)
-
-below : (n g f : ℕ) → n ≤ g → g ≤ f → n ≤ f
-below n g f h k = omega arith
-
-refl-≤ : (n : ℕ) → n ≤ n
-refl-≤ n = omega arith
-
 falls-next : (n : ℕ) (level : Level) (f g : Factors) (gs : List Factors) → falls n level f (g ∷ gs) ≡ true
     → thousandths level g ≤ thousandths level f
 unfolding falls
-falls-next n level f g gs h = le_of _ _ (and_left _ _ h)
+falls-next n level f g gs h = leb-true _ _ (and_parts _ _ h).0
 
 falls-rest : (n : ℕ) (level : Level) (f g : Factors) (gs : List Factors) → falls n level f (g ∷ gs) ≡ true
     → falls n level g gs ≡ true
 unfolding falls
-falls-rest n level f g gs h = and_right _ _ h
+falls-rest n level f g gs h = (and_parts _ _ h).1
 
 falls-low : (n : ℕ) (level : Level) (f : Factors) (gs : List Factors) → falls n level f gs ≡ true → n ≤ thousandths level f
 unfolding falls
-falls-low n level f [] h = le_of _ _ h
+falls-low n level f [] h = leb-true _ _ h
 falls-low n level f (g ∷ gs) h =
-    below n (thousandths level g) (thousandths level f) (falls-low n level g gs (and_right _ _ h)) (le_of _ _ (and_left _ _ h))
+    le_trans (falls-low n level g gs (and_parts _ _ h).1) (leb-true _ _ (and_parts _ _ h).0)
 
 row_at-low : (n : ℕ) (level : Level) (x : ℚ) (f : Factors) (gs : List Factors) → falls n level f gs ≡ true
     → n ≤ thousandths level (row_at x f gs)
@@ -58,16 +47,16 @@ row_at-low n level x f (g ∷ gs) h = by (is_at_most_ℚ (of_ℤ (pos g.degrees)
 row_at-high : (n : ℕ) (level : Level) (x : ℚ) (f : Factors) (gs : List Factors) → falls n level f gs ≡ true
     → thousandths level (row_at x f gs) ≤ thousandths level f
 unfolding row_at
-row_at-high n level x f [] h = refl-≤ _
+row_at-high n level x f [] h = le_refl _
 row_at-high n level x f (g ∷ gs) h = by (is_at_most_ℚ (of_ℤ (pos g.degrees)) x) (row_at-high n level x g gs (falls-rest n level f g gs h)) where
   by : (b : Bool) → thousandths level (row_at x g gs) ≤ thousandths level g → thousandths level (cond b (row_at x g gs) f) ≤ thousandths level f
-  by true k = below _ _ _ k (falls-next n level f g gs h)
-  by false k = refl-≤ _
+  by true k = le_trans k (falls-next n level f g gs h)
+  by false k = le_refl _
 
 row_at-falls : (n : ℕ) (level : Level) (x y : ℚ) → x ≤ℚ y → (f : Factors) (gs : List Factors) → falls n level f gs ≡ true
     → thousandths level (row_at y f gs) ≤ thousandths level (row_at x f gs)
 unfolding row_at
-row_at-falls n level x y l f [] h = refl-≤ _
+row_at-falls n level x y l f [] h = le_refl _
 row_at-falls n level x y l f (g ∷ gs) h =
     by (is_at_most_ℚ (of_ℤ (pos g.degrees)) x) (is_at_most_ℚ (of_ℤ (pos g.degrees)) y) refl refl
     (row_at-falls n level x y l g gs (falls-rest n level f g gs h)) where
@@ -76,14 +65,14 @@ row_at-falls n level x y l f (g ∷ gs) h =
           → thousandths level (cond c (row_at y g gs) f) ≤ thousandths level (cond b (row_at x g gs) f)
       by true true d e k = k
       by true false d e k = absurd (true≢false (sym (≤ℚ_trans (of_ℤ (pos g.degrees)) x y (record { holds = d }) l).holds ∙ e))
-      by false true d e k = below _ _ _ (row_at-high n level y g gs (falls-rest n level f g gs h)) (falls-next n level f g gs h)
-      by false false d e k = refl-≤ _
+      by false true d e k = le_trans (row_at-high n level y g gs (falls-rest n level f g gs h)) (falls-next n level f g gs h)
+      by false false d e k = le_refl _
 
 factor_in-≤ : (level : Level) (f g : Factors) → thousandths level f ≤ thousandths level g → factor_in level f ≤ℚ factor_in level g
 unfolding factor_in
 factor_in-≤ level f g h =
     *ℚ-≤ℚ _ _ (inv_ℚ (of_ℤ (pos 1000))) (inv-not_negative _ (whole-not_negative 1000))
-    (of_ℤ-≤ℚ (pos (thousandths level f)) (pos (thousandths level g)) (omega (arith, ints)))
+    (of_pos-≤ℚ _ _ h)
 
 pub factor-falls : (level : Level) (x y : ℚ) → x ≤ℚ y → factor level (FiniteDegrees y) ≤ℚ factor level (FiniteDegrees x)
 unfolding factor row_of
@@ -106,10 +95,8 @@ row_at-above : (n : ℕ) (x : ℚ) (f : Factors) (gs : List Factors) → none_ab
 unfolding row_at none_above
 row_at-above n x f [] h l = refl
 row_at-above n x f (g ∷ gs) h l =
-    let d : of_ℤ (pos g.degrees) ≤ℚ of_ℤ (pos n) = of_ℤ-≤ℚ (pos g.degrees) (pos n) (at_most (le_of g.degrees n (and_left _ _ h))) in
-    rw ((≤ℚ_trans _ _ _ d l).holds, d.holds) (row_at-above n x g gs (and_right _ _ h) l) where
-      at_most : {a b : ℕ} → a ≤ b → pos a ≤ℤ pos b
-      at_most k = omega (arith, ints)
+    let d = of_pos-≤ℚ g.degrees n (leb-true _ _ (and_parts _ _ h).0) in
+    rw ((≤ℚ_trans _ _ _ d l).holds, d.holds) (row_at-above n x g gs (and_parts _ _ h).1 l)
 
 table-none_above : none_above 100 later_rows ≡ true
 unfolding none_above later_rows row

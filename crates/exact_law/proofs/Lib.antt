@@ -1,4 +1,3 @@
-pub mod Tests
 pub mod Lists
 pub mod Chain
 pub mod Rows
@@ -17,3 +16,4 @@ pub mod Hundredths
 pub mod DigitLaws
 pub mod Parting
 pub mod Nearest
+pub mod JointMeans

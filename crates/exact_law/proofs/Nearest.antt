@@ -1,13 +1,13 @@
 -- The two digits are those of the two steps: the place first, then the nearest whole number.
-use Rattle.std.specs.Prelude.{◌≡◌, ◌↔◌, ℕ, suc, ◌+◌, ◌-◌, ◌*◌, ◌≤◌, ◌<◌, false, [], ◌∷◌, ℤ, pos, ◌+ℤ◌, ◌-ℤ◌, ◌*ℤ◌, ◌⊎◌, refl}
+use Rattle.std.specs.Prelude.{◌≡◌, ◌↔◌, ℕ, suc, ◌+◌, ◌-◌, ◌*◌, ◌≤◌, ◌<◌, [], ◌∷◌, ℤ, pos, ◌+ℤ◌, ◌-ℤ◌, ◌*ℤ◌, ◌⊎◌, refl}
 use Rattle.std.proofs.Common.{sym, ◌∙◌, ap, subst, arith, inl, inr}
 use Rattle.std.proofs.lemmas.Int.{ints}
 use Rattle.std.proofs.lemmas.Bool.{cases_lt}
 use Rattle.std.proofs.lemmas.Bool.Decides.{nat_tests}
-use std.Quotient.{/_rec}
-use Rattle.exact_fraction.specs.Number.{ℚ, of_ℤ, ◌*ℚ◌, is_zero_ℚ, ◌≤ℚ◌, ◌<ℚ◌}
+use Rattle.exact_fraction.specs.Number.{ℚ, of_ℤ, ◌*ℚ◌, ◌≤ℚ◌, ◌<ℚ◌}
 use Rattle.exact_fraction.specs.NumberLaws.{≤ℚ_trans, ≤ℚ_same, *ℚ_comm, *ℚ_assoc, of_ℤ-*}
 use Rattle.exact_fraction.proofs.OrderLaws.{≤ℚ_left, ≤ℚ_right, ≤ℚ_cancel}
+use Rattle.exact_fraction.proofs.Quotients.{positive_not_zero}
 use Rattle.exact_fraction.proofs.Ring.{Whole, ◌:*◌, x0, ring}
 use Rattle.exact_law.specs.Rounding.{least_root, scaled_square, ten_to, IsTwoDigits, IsNearest}
 use Rattle.exact_fraction.proofs.Strict.{below_not, below_by, below_or_not, ≤ℚ-<ℚ, <ℚ-≤ℚ}
@@ -15,13 +15,9 @@ use Rattle.exact_fraction.proofs.Signs.{whole-not_negative, times-≤ℚ}
 use Rattle.exact_law.proofs.RoundingLaws.{next_square, scaled_square-rises}
 
 -- ---- whole factors
-of_suc : (c : ℕ) → is_zero_ℚ (of_ℤ (pos (suc c))) ≡ false
-unfolding is_zero_ℚ /_rec
-of_suc c = refl
-
 cancel : (c : ℕ) (x y : ℚ) → of_ℤ (pos (suc c)) *ℚ x ≤ℚ of_ℤ (pos (suc c)) *ℚ y → x ≤ℚ y
 cancel c x y h =
-    ≤ℚ_cancel x y (of_ℤ (pos (suc c))) (whole-not_negative (suc c)) (of_suc c)
+    ≤ℚ_cancel x y (of_ℤ (pos (suc c))) (whole-not_negative (suc c)) (positive_not_zero (suc c) (omega arith))
     (≤ℚ_left _ _ _ (*ℚ_comm x _) (≤ℚ_right _ _ _ (*ℚ_comm _ y) h))
 
 times-below : (c : ℕ) (x y : ℚ) → x <ℚ y → of_ℤ (pos (suc c)) *ℚ x <ℚ of_ℤ (pos (suc c)) *ℚ y

@@ -1,10 +1,10 @@
 -- Which keys have no value: those of no quantity, and those that a cycle of uses leaves.
-use Rattle.std.specs.Prelude.{◌≡◌, ℕ, zero, suc, Bool, true, false, ◌&&◌, ◌||◌, Option, Some, None, List, length, refl}
-use Rattle.std.proofs.Common.{sym, ◌∙◌, ap, ap₂, inl, inr}
+use Rattle.std.specs.Prelude.{◌≡◌, ℕ, zero, suc, Bool, true, false, ◌&&◌, Option, Some, None, List, length, refl}
+use Rattle.std.proofs.Common.{sym, ◌∙◌, ap, inl, inr}
 use Rattle.std.specs.Prelude.{◌⊎◌}
-use Rattle.std.proofs.lemmas.Bool.{true≢false}
+use Rattle.std.proofs.lemmas.Bool.{or_cases, true≢false}
 use Rattle.exact_fraction.specs.Number.{ℚ}
-use Rattle.exact_law.specs.Model.{Expression, Num, Key, Neg, Add, Sub, Mul, Div, Pow, is_defined, uses, replaced, Body, Input, Formula, Row, body_of, is_input_body, is_input, estimate, replaced_body, expansion, expanded, has_value, body_uses, IsCyclic}
+use Rattle.exact_law.specs.Model.{Expression, Num, Key, Neg, Add, Sub, Mul, Div, Pow, is_defined, uses, Body, Input, Formula, Row, body_of, is_input_body, is_input, estimate, replaced_body, expansion, expanded, has_value, body_uses, IsCyclic}
 use Rattle.exact_law.proofs.Chain.{is_defined-replaced}
 
 -- ---- a key of no quantity
@@ -36,10 +36,6 @@ input_has_value same model n q e =
     ∙ ap is_input_body e
 
 -- ---- keys in cycles
-either : (a b : Bool) → (a || b) ≡ true → (a ≡ true) ⊎ (b ≡ true)
-either true b h = inl refl
-either false b h = inr h
-
 both_false : (a b : Bool) → (a ≡ false) ⊎ (b ≡ false) → (a && b) ≡ false
 both_false a b (inl e) = ap (λ t. t && b) e
 both_false true b (inr e) = e
@@ -63,16 +59,16 @@ undefined_by_use v known p h (Key n) u = h n u
 undefined_by_use v known p h (Neg a) u = undefined_by_use v known p h a u
 undefined_by_use v known p h (Add a b) u =
     both_false (is_defined v known a) (is_defined v known b)
-    (along_either _ _ _ _ (either (uses p a) (uses p b) u) (undefined_by_use v known p h a) (undefined_by_use v known p h b))
+    (along_either _ _ _ _ (or_cases (uses p a) (uses p b) u) (undefined_by_use v known p h a) (undefined_by_use v known p h b))
 undefined_by_use v known p h (Sub a b) u =
     both_false (is_defined v known a) (is_defined v known b)
-    (along_either _ _ _ _ (either (uses p a) (uses p b) u) (undefined_by_use v known p h a) (undefined_by_use v known p h b))
+    (along_either _ _ _ _ (or_cases (uses p a) (uses p b) u) (undefined_by_use v known p h a) (undefined_by_use v known p h b))
 undefined_by_use v known p h (Mul a b) u =
     both_false (is_defined v known a) (is_defined v known b)
-    (along_either _ _ _ _ (either (uses p a) (uses p b) u) (undefined_by_use v known p h a) (undefined_by_use v known p h b))
+    (along_either _ _ _ _ (or_cases (uses p a) (uses p b) u) (undefined_by_use v known p h a) (undefined_by_use v known p h b))
 undefined_by_use v known p h (Div a b) u =
     all_false (is_defined v known a) (is_defined v known b) _
-    (along_either _ _ _ _ (either (uses p a) (uses p b) u) (undefined_by_use v known p h a) (undefined_by_use v known p h b))
+    (along_either _ _ _ _ (or_cases (uses p a) (uses p b) u) (undefined_by_use v known p h a) (undefined_by_use v known p h b))
 undefined_by_use v known p h (Pow a n) u = both_false (is_defined v known a) _ (inl (undefined_by_use v known p h a u))
 
 -- at each depth of the expansion

@@ -1,6 +1,6 @@
 -- Expressions and sums depend on the keys that occur in them alone.
 use Rattle.std.specs.Prelude.{◌≡◌, ℕ, zero, suc, Bool, true, false, cond, not, ◌&&◌, Option, Some, None, List, [], ◌∷◌, ◌++◌, length, refl}
-use Rattle.std.proofs.Common.{◌∙◌, ap, ap₂}
+use Rattle.std.proofs.Common.{ap, ap₂}
 use Rattle.exact_fraction.specs.Number.{ℚ, ◌+ℚ◌, ◌*ℚ◌, ◌/ℚ◌, neg_ℚ, is_zero_ℚ, ◌-ℚ◌}
 use Rattle.exact_fraction.specs.Powers.{whole_power}
 use Rattle.exact_fraction.specs.Sums.{total}

@@ -2,7 +2,7 @@
 -- groups.
 use Rattle.std.specs.Prelude.{◌≡◌, ℕ, Bool, true, false, cond, not, ◌&&◌, List, [], ◌∷◌, ◌++◌, map, pos, refl}
 use Rattle.std.proofs.Common.{sym, ◌∙◌, ap, ap₂, subst}
-use Rattle.std.proofs.lemmas.Bool.{true≢false, and_from}
+use Rattle.std.proofs.lemmas.Bool.{and_parts, not-true, true≢false, and_from}
 use Rattle.std.proofs.lemmas.List.{append_assoc}
 use Rattle.exact_fraction.specs.Number.{ℚ, of_ℤ, ◌+ℚ◌, ◌*ℚ◌}
 use Rattle.exact_fraction.specs.Sums.{total}
@@ -10,19 +10,18 @@ use Rattle.exact_fraction.proofs.Ring.{Whole, ◌:+◌, ◌:*◌, x0, x1, x2, ze
 use Rattle.exact_fraction.proofs.SumLaws.{total-same, total-zero, total-times, total-append}
 use Rattle.exact_law.specs.Model.{IsSameTest, unit, absent, once}
 use Rattle.exact_law.specs.Law.{Column, Group, Own, Pair, Joint, joint, cell, covariance_in, covariance, members, all_members, stand_in, PartTheInputs, OnceAmong}
-use Rattle.exact_law.proofs.Tests.{and_left, and_right}
 use Rattle.exact_law.proofs.Rows.{absent_once}
 
 -- ---- keys in lists
 absent-append_left : {K : Type 0} (same : K → K → Bool) (i : K) (xs ys : List K) → absent same i (xs ++ ys) ≡ true → absent same i xs ≡ true
 unfolding absent
 absent-append_left same i [] ys h = refl
-absent-append_left same i (x ∷ xs) ys h = and_from _ _ (and_left _ _ h) (absent-append_left same i xs ys (and_right _ _ h))
+absent-append_left same i (x ∷ xs) ys h = and_from _ _ (and_parts _ _ h).0 (absent-append_left same i xs ys (and_parts _ _ h).1)
 
 absent-append_right : {K : Type 0} (same : K → K → Bool) (i : K) (xs ys : List K) → absent same i (xs ++ ys) ≡ true → absent same i ys ≡ true
 unfolding absent
 absent-append_right same i [] ys h = h
-absent-append_right same i (x ∷ xs) ys h = absent-append_right same i xs ys (and_right _ _ h)
+absent-append_right same i (x ∷ xs) ys h = absent-append_right same i xs ys (and_parts _ _ h).1
 
 -- a key that stands once in all, and does not lack in the one part, lacks in the other
 once_left : {K : Type 0} (same : K → K → Bool) (i : K) (xs ys : List K) → once same i (xs ++ ys) ≡ true → once same i xs ≡ true
@@ -62,10 +61,10 @@ stands : {K : Type 0} (same : K → K → Bool) → IsSameTest same → (inputs 
     → absent same i ns ≡ false → once same i inputs ≡ true
 unfolding stand_in absent
 stands same law inputs [] i h k = absurd (true≢false k)
-stands same law inputs (n ∷ ns) i h k = by (same n i) refl k (λ g. stands same law inputs ns i (and_right _ _ h) g) where
+stands same law inputs (n ∷ ns) i h k = by (same n i) refl k (λ g. stands same law inputs ns i (and_parts _ _ h).1 g) where
   by : (b : Bool) → same n i ≡ b → (not b && absent same i ns) ≡ false → (absent same i ns ≡ false → once same i inputs ≡ true)
       → once same i inputs ≡ true
-  by true e k rest = subst (λ m. once same m inputs ≡ true) (law.sound n i e) (and_left _ _ h)
+  by true e k rest = subst (λ m. once same m inputs ≡ true) (law.sound n i e) (and_parts _ _ h).0
   by false e k rest = rest k
 
 all_members-append : {K : Type 0} (before : List (Group K)) (g : Group K) (after : List (Group K))
@@ -87,17 +86,13 @@ unit-self : {K : Type 0} (same : K → K → Bool) → IsSameTest same → (i : 
 unfolding unit
 unit-self same law i = ap (λ b. cond b (of_ℤ (pos 1)) (of_ℤ (pos 0))) (law.complete i)
 
-not_true : (b : Bool) → not b ≡ true → b ≡ false
-not_true true h = sym h
-not_true false h = refl
-
 first_absent : {K : Type 0} (same : K → K → Bool) (i a : K) (ns : List K) → absent same i (a ∷ ns) ≡ true → same a i ≡ false
 unfolding absent
-first_absent same i a ns h = not_true _ (and_left _ _ h)
+first_absent same i a ns h = not-true _ (and_parts _ _ h).0
 
 rest_absent : {K : Type 0} (same : K → K → Bool) (i a : K) (ns : List K) → absent same i (a ∷ ns) ≡ true → absent same i ns ≡ true
 unfolding absent
-rest_absent same i a ns h = and_right _ _ h
+rest_absent same i a ns h = (and_parts _ _ h).1
 
 cell-left : {K : Type 0} (same : K → K → Bool) (a b : K) (c : ℚ) (i j : K) → unit same i a ≡ of_ℤ (pos 0) → cell same a b c i j ≡ of_ℤ (pos 0)
 unfolding cell

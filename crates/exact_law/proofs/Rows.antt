@@ -1,41 +1,36 @@
 -- Orders of rows: the sweep solves the backward equations, the values and derivatives of the expansion
 -- solve the forward ones, and an order is no longer than its model.
-use Rattle.std.specs.Prelude.{◌≡◌, ℕ, suc, zero, ◌≤◌, Bool, true, false, cond, not, Some, List, [], ◌∷◌, length, pos, refl}
+use Rattle.std.specs.Prelude.{◌≡◌, ℕ, suc, zero, ◌≤◌, Bool, true, false, cond, Some, List, [], ◌∷◌, length, pos, refl}
 use Rattle.std.proofs.Common.{sym, ◌∙◌, ap, ap₂, subst, arith}
-use Rattle.std.proofs.lemmas.Bool.{true≢false}
+use Rattle.std.proofs.lemmas.Bool.{and_parts, not-true, true≢false}
 use Rattle.exact_fraction.specs.Number.{ℚ, of_ℤ, ◌+ℚ◌, ◌*ℚ◌, ◌/ℚ◌, neg_ℚ, inv_ℚ, ◌-ℚ◌}
 use Rattle.exact_fraction.proofs.Ring.{Whole, ◌:+◌, ◌:-◌, ◌:*◌, Minus, x0, x1, x2, ring}
 use Rattle.exact_fraction.specs.Sums.{total}
 use Rattle.exact_law.specs.Model.{Expression, Num, Key, Neg, Add, Sub, Mul, Div, Pow, value, power_slope, slope, replaced, Body, Input, Formula, Row, IsSameTest, body_of, replaced_body, expansion, expanded, unit, body_partial, partial, sweep, brought, keys, absent, once, uses_only, body_uses_only, is_order, AreOf}
-use Rattle.exact_law.proofs.Tests.{and_left, and_right}
 use Rattle.exact_law.proofs.Chain.{AllRows, AllRows-map}
 
 -- ---- what an order says of its first row
 pub order-absent : {K : Type 0} (same : K → K → Bool) (r : Row K) (rs : List (Row K)) → is_order same (r ∷ rs) ≡ true
     → absent same r.key (keys rs) ≡ true
 unfolding is_order
-order-absent same r rs o = and_left _ _ (and_left _ _ o)
+order-absent same r rs o = (and_parts _ _ (and_parts _ _ o).0).0
 
 pub order-uses : {K : Type 0} (same : K → K → Bool) (r : Row K) (rs : List (Row K)) → is_order same (r ∷ rs) ≡ true
     → body_uses_only same (keys rs) r.body ≡ true
 unfolding is_order
-order-uses same r rs o = and_right _ _ (and_left _ _ o)
+order-uses same r rs o = (and_parts _ _ (and_parts _ _ o).0).1
 
 pub order-rest : {K : Type 0} (same : K → K → Bool) (r : Row K) (rs : List (Row K)) → is_order same (r ∷ rs) ≡ true
     → is_order same rs ≡ true
 unfolding is_order
-order-rest same r rs o = and_right _ _ o
+order-rest same r rs o = (and_parts _ _ o).1
 
 -- ---- keys that are absent
-pub not_true : (b : Bool) → not b ≡ true → b ≡ false
-not_true true h = absurd (true≢false (sym h))
-not_true false h = refl
-
 pub absent_once : {K : Type 0} (same : K → K → Bool) (n : K) (ns : List K) → absent same n ns ≡ true → once same n ns ≡ false
 unfolding absent once
 absent_once same n [] h = refl
 absent_once same n (m ∷ ms) h =
-    rw (not_true (same m n) (and_left _ _ h)) (absent_once same n ms (and_right _ _ h))
+    rw (not-true (same m n) (and_parts _ _ h).0) (absent_once same n ms (and_parts _ _ h).1)
 
 -- a key that is not used has the derivative 0
 pub unused_key : {K : Type 0} (same : K → K → Bool) → IsSameTest same → (n k : K) (ns : List K)
@@ -54,18 +49,18 @@ slope-unused same law v n ns (Key k) h n0 = unused_key same law n k ns h n0
 slope-unused same law v n ns (Neg a) h n0 =
     ap neg_ℚ (slope-unused same law v n ns a h n0) ∙ ring [] (Minus (Whole (pos 0))) (Whole (pos 0)) refl
 slope-unused same law v n ns (Add a b) h n0 =
-    ap₂ ◌+ℚ◌ (slope-unused same law v n ns a (and_left _ _ h) n0) (slope-unused same law v n ns b (and_right _ _ h) n0)
+    ap₂ ◌+ℚ◌ (slope-unused same law v n ns a (and_parts _ _ h).0 n0) (slope-unused same law v n ns b (and_parts _ _ h).1 n0)
     ∙ ring [] (Whole (pos 0) :+ Whole (pos 0)) (Whole (pos 0)) refl
 slope-unused same law v n ns (Sub a b) h n0 =
-    ap₂ ◌-ℚ◌ (slope-unused same law v n ns a (and_left _ _ h) n0) (slope-unused same law v n ns b (and_right _ _ h) n0)
+    ap₂ ◌-ℚ◌ (slope-unused same law v n ns a (and_parts _ _ h).0 n0) (slope-unused same law v n ns b (and_parts _ _ h).1 n0)
     ∙ ring [] (Whole (pos 0) :- Whole (pos 0)) (Whole (pos 0)) refl
 slope-unused same law v n ns (Mul a b) h n0 =
     ap₂ (λ s t. (s *ℚ value v b) +ℚ (value v a *ℚ t))
-    (slope-unused same law v n ns a (and_left _ _ h) n0) (slope-unused same law v n ns b (and_right _ _ h) n0)
+    (slope-unused same law v n ns a (and_parts _ _ h).0 n0) (slope-unused same law v n ns b (and_parts _ _ h).1 n0)
     ∙ ring (value v a ∷ value v b ∷ []) (Whole (pos 0) :* x1 :+ x0 :* Whole (pos 0)) (Whole (pos 0)) refl
 slope-unused same law v n ns (Div a b) h n0 =
     ap₂ (λ s t. (s -ℚ (value v (Div a b) *ℚ t)) /ℚ value v b)
-    (slope-unused same law v n ns a (and_left _ _ h) n0) (slope-unused same law v n ns b (and_right _ _ h) n0)
+    (slope-unused same law v n ns a (and_parts _ _ h).0 n0) (slope-unused same law v n ns b (and_parts _ _ h).1 n0)
     ∙ ring (value v (Div a b) ∷ inv_ℚ (value v b) ∷ []) ((Whole (pos 0) :- x0 :* Whole (pos 0)) :* x1) (Whole (pos 0)) refl
 slope-unused same law v n ns (Pow a k) h n0 =
     ap (λ t. power_slope (value v a) k *ℚ t) (slope-unused same law v n ns a h n0)
@@ -84,8 +79,8 @@ unfolding total absent keys partial brought
 brought-absent same law v a n [] o n0 = refl
 brought-absent same law v a n (r ∷ rs) o n0 =
     ap₂ (λ s t. (a r.key *ℚ s) +ℚ t)
-    (body_partial-unused same law v n (keys rs) r.body (order-uses same r rs o) (and_right _ _ n0))
-    (brought-absent same law v a n rs (order-rest same r rs o) (and_right _ _ n0))
+    (body_partial-unused same law v n (keys rs) r.body (order-uses same r rs o) (and_parts _ _ n0).1)
+    (brought-absent same law v a n rs (order-rest same r rs o) (and_parts _ _ n0).1)
     ∙ ring (a r.key ∷ []) (x0 :* Whole (pos 0) :+ Whole (pos 0)) (Whole (pos 0)) refl
 
 -- ---- the sweep solves the backward equations
@@ -173,11 +168,11 @@ unfolding absent keys
 found_without_all same law n model [] a h = tt
 found_without_all same law n model (r ∷ rs) a h = (
   found-without same law n r.key model (other (same n r.key) refl) h.0,
-  found_without_all same law n model rs (and_right _ _ a) h.1,
+  found_without_all same law n model rs (and_parts _ _ a).1 h.1,
 ) where
   other : (b : Bool) → same n r.key ≡ b → same n r.key ≡ false
   other true e =
-      absurd (true≢false (sym (law.complete n) ∙ ap (λ k. same k n) (law.sound n r.key e) ∙ not_true (same r.key n) (and_left _ _ a)))
+      absurd (true≢false (sym (law.complete n) ∙ ap (λ k. same k n) (law.sound n r.key e) ∙ not-true (same r.key n) (and_parts _ _ a).0))
   other false e = e
 
 order_fits : {K : Type 0} (same : K → K → Bool) → IsSameTest same → (rows model : List (Row K))
@@ -200,13 +195,13 @@ replaced-same same ns s t e (Num q) h = refl
 replaced-same same ns s t e (Key n) h = e n h
 replaced-same same ns s t e (Neg a) h = ap Neg (replaced-same same ns s t e a h)
 replaced-same same ns s t e (Add a b) h =
-    ap₂ Add (replaced-same same ns s t e a (and_left _ _ h)) (replaced-same same ns s t e b (and_right _ _ h))
+    ap₂ Add (replaced-same same ns s t e a (and_parts _ _ h).0) (replaced-same same ns s t e b (and_parts _ _ h).1)
 replaced-same same ns s t e (Sub a b) h =
-    ap₂ Sub (replaced-same same ns s t e a (and_left _ _ h)) (replaced-same same ns s t e b (and_right _ _ h))
+    ap₂ Sub (replaced-same same ns s t e a (and_parts _ _ h).0) (replaced-same same ns s t e b (and_parts _ _ h).1)
 replaced-same same ns s t e (Mul a b) h =
-    ap₂ Mul (replaced-same same ns s t e a (and_left _ _ h)) (replaced-same same ns s t e b (and_right _ _ h))
+    ap₂ Mul (replaced-same same ns s t e a (and_parts _ _ h).0) (replaced-same same ns s t e b (and_parts _ _ h).1)
 replaced-same same ns s t e (Div a b) h =
-    ap₂ Div (replaced-same same ns s t e a (and_left _ _ h)) (replaced-same same ns s t e b (and_right _ _ h))
+    ap₂ Div (replaced-same same ns s t e a (and_parts _ _ h).0) (replaced-same same ns s t e b (and_parts _ _ h).1)
 replaced-same same ns s t e (Pow a k) h = ap (λ b. Pow b k) (replaced-same same ns s t e a h)
 
 -- what holds of each row's key holds of each key that stands in the rows

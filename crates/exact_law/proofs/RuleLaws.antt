@@ -2,17 +2,12 @@
 use Rattle.std.specs.Prelude.{◌≡◌, Bool, true, false, cond, ◌&&◌, ◌||◌, List, [], ◌∷◌, pos, refl}
 use Rattle.std.proofs.Common.{sym, ◌∙◌}
 use Rattle.std.proofs.lemmas.Bool.{true≢false}
-use Rattle.exact_fraction.specs.Number.{ℚ, of_ℤ, ◌*ℚ◌, is_at_most_ℚ, ◌≤ℚ◌}
+use Rattle.exact_fraction.specs.Number.{ℚ, of_ℤ, ◌*ℚ◌, is_at_most_ℚ}
 use Rattle.exact_fraction.specs.NumberLaws.{≤ℚ_refl, ≤ℚ_trans}
+use Rattle.exact_fraction.proofs.Strict.{below_by}
 use Rattle.exact_law.specs.WrittenRule.{Form, Binary, FourOutcomes, Statement, is_inside, is_guarded, is_near, all_of, stated_by, stated_at, Ends, IsWithin, Answer, Yes, No, Unsettled, compared, both, either, Span, inside_over, guarded_over, near_over, all_over, Stated, decided, decision_by, decision, AllWithin, Agrees}
 
 -- ---- tests of the order
-not_at_most : (x y : ℚ) → (x ≤ℚ y → ⊥) → is_at_most_ℚ x y ≡ false
-not_at_most x y h = by (is_at_most_ℚ x y) refl where
-  by : (b : Bool) → is_at_most_ℚ x y ≡ b → is_at_most_ℚ x y ≡ false
-  by true e = absurd (h (record { holds = e }))
-  by false e = e
-
 compared-agrees : (x y : ℚ) (a b : Ends) → IsWithin x a → IsWithin y b → Agrees (compared a b) (is_at_most_ℚ x y)
 unfolding compared Agrees
 compared-agrees x y a b h k = by (is_at_most_ℚ a.high b.low) (is_at_most_ℚ a.low b.high) refl refl where
@@ -21,8 +16,8 @@ compared-agrees x y a b h k = by (is_at_most_ℚ a.high b.low) (is_at_most_ℚ a
   by true t e f = (≤ℚ_trans x a.high y h.below (≤ℚ_trans a.high b.low y (record { holds = e }) k.above)).holds
   by false true e f = tt
   by false false e f =
-      not_at_most x y
-      (λ g. true≢false (sym (≤ℚ_trans a.low x b.high h.above (≤ℚ_trans x y b.high g k.below)).holds ∙ f))
+      (below_by y x
+      (λ g. true≢false (sym (≤ℚ_trans a.low x b.high h.above (≤ℚ_trans x y b.high g k.below)).holds ∙ f))).not_above
 
 -- ---- joined answers
 both-agrees : (a b : Answer) (p q : Bool) → Agrees a p → Agrees b q → Agrees (both a b) (p && q)

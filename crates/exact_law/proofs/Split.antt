@@ -1,9 +1,9 @@
 -- The law is the sum of the groups' parts, and no part is negative.
-use Rattle.std.specs.Prelude.{◌≡◌, ℕ, zero, suc, ◌-◌, Bool, true, false, ◌&&◌, List, [], ◌∷◌, pos, ◌+ℤ◌, refl}
-use Rattle.std.proofs.Common.{sym, ◌∙◌, ap, ap₂, arith}
-use Rattle.std.proofs.lemmas.Int.{ints}
+use Rattle.std.specs.Prelude.{◌≡◌, ℕ, ◌-◌, Bool, true, false, ◌&&◌, List, [], ◌∷◌, pos, refl}
+use Rattle.std.proofs.Common.{sym, ◌∙◌, ap, ap₂}
+use Rattle.std.proofs.lemmas.Bool.{and_parts}
 use Rattle.exact_fraction.specs.Number.{ℚ, of_ℤ, ◌+ℚ◌, ◌*ℚ◌, neg_ℚ, inv_ℚ, is_zero_ℚ, ◌≤ℚ◌, ◌-ℚ◌}
-use Rattle.exact_fraction.specs.NumberLaws.{≤ℚ_refl, ≤ℚ_antisym, of_ℤ-+}
+use Rattle.exact_fraction.specs.NumberLaws.{≤ℚ_refl, ≤ℚ_antisym}
 use Rattle.exact_fraction.proofs.Quotients.{is_zero_ℚ-≡}
 use Rattle.exact_fraction.proofs.OrderLaws.{≤ℚ_right, ≤ℚ_by, ≤ℚ_cancel, ≤ℚ-difference, +ℚ-not_negative, *ℚ-not_negative, square-not_negative}
 use Rattle.exact_fraction.proofs.Ring.{Whole, ◌:+◌, ◌:-◌, ◌:*◌, Minus, x0, x1, x2, x3, x4, x5, ring}
@@ -11,9 +11,9 @@ use Rattle.exact_fraction.specs.Sums.{total, below}
 use Rattle.exact_law.specs.Model.{IsSameTest, unit, once}
 use Rattle.exact_law.specs.Law.{Column, Group, Own, Pair, Joint, declared_pair, joint, cell, covariance_in, covariance, law_of, part, IsSound, members, stand_in, AllGroups, IsSoundFor}
 use Rattle.exact_fraction.proofs.SumLaws.{total-same, total-zero, total-plus, total-times, total-times_right, total-swap}
-use Rattle.exact_law.proofs.Tests.{and_left, and_right}
 use Rattle.exact_law.proofs.Chain.{along-once}
-use Rattle.exact_fraction.proofs.Signs.{not_negative-same, whole-not_negative, inv-not_negative, total-not_negative, product_zero}
+use Rattle.exact_fraction.proofs.Spread.{spread, spread-not_negative}
+use Rattle.exact_fraction.proofs.Signs.{not_negative-same, whole-not_negative, inv-not_negative, product_zero}
 
 -- ---- the double sum, linear in the covariances
 law_of-zero : {K : Type 0} (inputs : List K) (u w : K → ℚ) → law_of (λ i j. of_ℤ (pos 0)) inputs u w ≡ of_ℤ (pos 0)
@@ -64,7 +64,7 @@ total-columns : {K : Type 0} (same : K → K → Bool) (inputs : List K) (f g : 
 unfolding total stand_in members
 total-columns same inputs f g [] h e = refl
 total-columns same inputs f g (a ∷ rest) h e =
-    ap₂ ◌+ℚ◌ (e a (and_left _ _ h)) (total-columns same inputs f g rest (and_right _ _ h) e)
+    ap₂ ◌+ℚ◌ (e a (and_parts _ _ h).0) (total-columns same inputs f g rest (and_parts _ _ h).1 e)
 
 law_of-joint : {K : Type 0} (same : K → K → Bool) → IsSameTest same → (n : ℕ) (columns : List (Column K)) (inputs : List K) (u w : K → ℚ)
     → stand_in same inputs (members (Joint 0 columns)) ≡ true
@@ -80,7 +80,7 @@ law_of-joint same law n columns inputs u w h =
 law_of-group : {K : Type 0} (same : K → K → Bool) → IsSameTest same → (inputs : List K) (u w : K → ℚ) (g : Group K)
     → stand_in same inputs (members g) ≡ true → law_of (covariance_in same g) inputs u w ≡ part g u w
 unfolding covariance_in part stand_in members
-law_of-group same law inputs u w (Own k c d) h = law_of-cell same law k k c inputs u w (and_left _ _ h) (and_left _ _ h)
+law_of-group same law inputs u w (Own k c d) h = law_of-cell same law k k c inputs u w (and_parts _ _ h).0 (and_parts _ _ h).0
 law_of-group same law inputs u w (Pair k m v v' c d) h =
     law_of-plus _ _ inputs u w
     ∙ ap₂ ◌+ℚ◌
@@ -89,10 +89,10 @@ law_of-group same law inputs u w (Pair k m v v' c d) h =
     (law_of-plus _ _ inputs u w
     ∙ ap₂ ◌+ℚ◌ (law_of-cell same law k m c inputs u w k1 m1) (law_of-cell same law m k c inputs u w m1 k1)) where
       k1 : once same k inputs ≡ true
-      k1 = and_left (once same k inputs) (once same m inputs && true) h
+      k1 = (and_parts (once same k inputs) (once same m inputs && true) h).0
 
       m1 : once same m inputs ≡ true
-      m1 = and_left (once same m inputs) true (and_right (once same k inputs) (once same m inputs && true) h)
+      m1 = (and_parts (once same m inputs) true (and_parts (once same k inputs) (once same m inputs && true) h).1).0
 law_of-group same law inputs u w (Joint n columns) h = law_of-joint same law n columns inputs u w h
 
 law_of-groups : {K : Type 0} (same : K → K → Bool) → IsSameTest same → (inputs : List K) (u w : K → ℚ) (groups : List (Group K))
@@ -110,41 +110,6 @@ pub law_split : {K : Type 0} (same : K → K → Bool) → IsSameTest same → (
 unfolding covariance
 law_split same law inputs u w groups h =
     law_of-total (covariance_in same) groups inputs u w ∙ law_of-groups same law inputs u w groups h
-
--- ---- n Σx² - (Σx)² is not negative
-one_more : (n : ℕ) → (pos 1 +ℤ pos n) ≡ pos (suc n)
-one_more n = omega (arith, ints)
-
-squares : (x : ℕ → ℚ) (z : ℚ) (n : ℕ)
-    → total (λ t. (z -ℚ x t) *ℚ (z -ℚ x t)) (below n)
-    ≡ (of_ℤ (pos n) *ℚ (z *ℚ z)) -ℚ (of_ℤ (pos 2) *ℚ (z *ℚ total x (below n))) +ℚ total (λ t. x t *ℚ x t) (below n)
-unfolding total below
-squares x z zero =
-    ring (z ∷ []) (Whole (pos 0)) ((Whole (pos 0) :* (x0 :* x0)) :- (Whole (pos 2) :* (x0 :* Whole (pos 0))) :+ Whole (pos 0)) refl
-squares x z (suc n) =
-    ap (λ t. ((z -ℚ x n) *ℚ (z -ℚ x n)) +ℚ t) (squares x z n)
-    ∙ ring (z ∷ x n ∷ of_ℤ (pos n) ∷ total x (below n) ∷ total (λ t. x t *ℚ x t) (below n) ∷ [])
-    (((x0 :- x1) :* (x0 :- x1)) :+ (x2 :* (x0 :* x0) :- Whole (pos 2) :* (x0 :* x3) :+ x4))
-    (((Whole (pos 1) :+ x2) :* (x0 :* x0)) :- Whole (pos 2) :* (x0 :* (x1 :+ x3)) :+ (x1 :* x1 :+ x4)) refl
-    ∙ ap (λ t. (t *ℚ (z *ℚ z)) -ℚ (of_ℤ (pos 2) *ℚ (z *ℚ (x n +ℚ total x (below n)))) +ℚ ((x n *ℚ x n) +ℚ total (λ t. x t *ℚ x t) (below n)))
-    (sym (of_ℤ-+ (pos 1) (pos n)) ∙ ap of_ℤ (one_more n))
-
-spread-not_negative : (x : ℕ → ℚ) (n : ℕ)
-    → of_ℤ (pos 0) ≤ℚ (of_ℤ (pos n) *ℚ total (λ t. x t *ℚ x t) (below n)) -ℚ (total x (below n) *ℚ total x (below n))
-unfolding total below
-spread-not_negative x zero =
-    not_negative-same _ (of_ℤ (pos 0)) (ring [] (Whole (pos 0) :* Whole (pos 0) :- Whole (pos 0) :* Whole (pos 0)) (Whole (pos 0)) refl) (≤ℚ_refl _)
-spread-not_negative x (suc n) =
-    not_negative-same _
-    (((of_ℤ (pos n) *ℚ total (λ t. x t *ℚ x t) (below n)) -ℚ (total x (below n) *ℚ total x (below n)))
-    +ℚ total (λ t. (x n -ℚ x t) *ℚ (x n -ℚ x t)) (below n))
-    (ap (λ t. (t *ℚ ((x n *ℚ x n) +ℚ total (λ t. x t *ℚ x t) (below n))) -ℚ ((x n +ℚ total x (below n)) *ℚ (x n +ℚ total x (below n))))
-    (ap of_ℤ (sym (one_more n)) ∙ of_ℤ-+ (pos 1) (pos n))
-    ∙ ring (x n ∷ of_ℤ (pos n) ∷ total x (below n) ∷ total (λ t. x t *ℚ x t) (below n) ∷ [])
-    (((Whole (pos 1) :+ x1) :* (x0 :* x0 :+ x3)) :- ((x0 :+ x2) :* (x0 :+ x2)))
-    ((x1 :* x3 :- x2 :* x2) :+ (x1 :* (x0 :* x0) :- Whole (pos 2) :* (x0 :* x2) :+ x3)) refl
-    ∙ ap (λ t. ((of_ℤ (pos n) *ℚ total (λ t. x t *ℚ x t) (below n)) -ℚ (total x (below n) *ℚ total x (below n))) +ℚ t) (sym (squares x (x n) n)))
-    (+ℚ-not_negative _ _ (spread-not_negative x n) (total-not_negative _ (below n) (λ t. square-not_negative (x n -ℚ x t))))
 
 -- ---- the part of a table is the spread of one column, the sum of its columns by their sensitivities
 abbrev joined : {K : Type 0} → List (Column K) → (K → ℚ) → ℕ → ℚ
@@ -199,8 +164,7 @@ total-linear k m f g xs ys =
 
 part-joint : {K : Type 0} (n : ℕ) (columns : List (Column K)) (u : K → ℚ)
     → part (Joint n columns) u u
-    ≡ scale n *ℚ ((of_ℤ (pos n) *ℚ total (λ t. joined columns u t *ℚ joined columns u t) (below n))
-    -ℚ (total (joined columns u) (below n) *ℚ total (joined columns u) (below n)))
+    ≡ scale n *ℚ spread n (joined columns u) (joined columns u)
 unfolding part
 part-joint n columns u =
     total-same _ _ columns (λ a. total-same _ _ columns (λ b. joint-parts n (u a.key) (u b.key) a.reading b.reading))

@@ -6,10 +6,9 @@ use Rattle.exact_fraction.specs.Number.{◌+ℚ◌, ◌*ℚ◌, neg_ℚ, inv_ℚ
 use Rattle.exact_fraction.specs.Powers.{power, whole_power}
 use Rattle.exact_fraction.specs.Sums.{total, below}
 use Rattle.exact_fraction.proofs.Ring.{same_by_test}
-use Rattle.exact_law.proofs.Lists.{same_lists}
-use Rattle.exact_law.specs.Model.{value, slope, power_slope, has_power, is_defined, uses, replaced, body_of, estimate_in, estimate, is_input_body, is_input, replaced_body, expansion, expanded, unit, exact_value, exact_slope, has_value, value_of, derivative_of, body_uses, keys, absent, once, uses_only, body_uses_only, is_order, AreOf}
+use Rattle.exact_law.specs.Model.{value, slope, power_slope, replaced, body_of, estimate_in, estimate, replaced_body, expansion, expanded, unit, exact_value, exact_slope, absent, once}
 use Rattle.exact_law.specs.Law.{mean, joint, cell, covariance_in, covariance, law_of, part, inputs_with, inputs_of, law, part_of, IsSound, members, stand_in, AllGroups}
-use Rattle.exact_law.specs.Degrees.{FiniteDegrees, counts, any_counts, weight, effective, inverse_degrees, share_of, shares_of, degrees_of, row, first_row, later_rows, infinite_row, thousandths, row_at, row_of}
+use Rattle.exact_law.specs.Degrees.{FiniteDegrees, counts, any_counts, weight, effective, inverse_degrees, share_of, shares_of, degrees_of}
 use Rattle.exact_law.proofs.worked.worked_degrees.Goals as goal
 
 pub returns : goal.returns

@@ -1,13 +1,10 @@
 use Rattle.std.specs.Prelude.{refl}
-use Rattle.std.proofs.Common.{ap, arith}
+use Rattle.std.proofs.Common.{arith}
 use Rattle.std.proofs.lemmas.Int.{ints}
 use std.Quotient.{/_rec, /_rec₂}
 use Rattle.exact_fraction.specs.Fraction.{◌⊕◌, ◌⊗◌, negated, inverse, is_at_most, floor}
 use Rattle.exact_fraction.specs.Number.{◌+ℚ◌, ◌*ℚ◌, neg_ℚ, inv_ℚ, is_zero_ℚ, is_at_most_ℚ, floor_ℚ}
-use Rattle.exact_fraction.specs.Powers.{power, whole_power}
-use Rattle.exact_fraction.specs.Sums.{total, below}
-use Rattle.exact_fraction.proofs.Ring.{same_by_test}
-use Rattle.exact_law.proofs.Lists.{same_lists}
+use Rattle.exact_fraction.specs.Powers.{power}
 use Rattle.exact_law.specs.Rounding.{ten_to, at_place, scaled_square, AreDigitsOf}
 use Rattle.exact_law.proofs.worked.worked_roundings.Goals as goal
 
