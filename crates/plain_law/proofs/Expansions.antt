@@ -1,7 +1,7 @@
 -- The expansion of a model by its places, and how failures spread.
 use Rattle.std.specs.Prelude.{◌≡◌, ℕ, zero, suc, ◌+◌, ◌-◌, ◌*◌, ◌<◌, ◌≤◌, Bool, true, false, cond, not, ◌&&◌, Some, None, Result, Ok, Err, List, [], ◌∷◌, length, slice_get, nat_eq, ℤ, pos, refl}
 use Rattle.std.proofs.Common.{sym, ◌∙◌, ap, arith, eq-eqb, subst}
-use Rattle.std.proofs.lemmas.Bool.{ne_eqb, ltb-true, ltb-false, true≢false}
+use Rattle.std.proofs.lemmas.Bool.{and_left, and_right, ne_eqb, ltb-true, ltb-false, true≢false}
 use Rattle.std.proofs.lemmas.Option.{slice_get_read, slice_get_past}
 use Rattle.std.proofs.Math.Dec.{ltb}
 use Rattle.std.proofs.Math.ListN.{get_or}
@@ -134,54 +134,37 @@ failed v d known f g h e (Err x) i k l m = along v d known g h (Err x) k (subst 
   spread v d known f h Undefined l m = l m
   spread v d known f h TooWide l m = tt
 
-pub left_false : (a b : Bool) → a ≡ false → (a && b) ≡ false
-left_false true b h = absurd (true≢false h)
-left_false false b h = refl
-
-pub right_false : (a b : Bool) → b ≡ false → (a && b) ≡ false
-right_false true b h = h
-right_false false b h = refl
-
-first_false : (a b c : Bool) → a ≡ false → (a && b && c) ≡ false
-first_false true b c h = absurd (true≢false h)
-first_false false b c h = refl
-
-middle_false : (a b c : Bool) → b ≡ false → (a && b && c) ≡ false
-middle_false a true c h = absurd (true≢false h)
-middle_false true false c h = refl
-middle_false false false c h = refl
-
 pub add_left : (v : ℕ → ℚ) (known : ℕ → Bool) (f g : Expression ℕ) → is_defined v known f ≡ false → is_defined v known (Add f g) ≡ false
 unfolding is_defined
-add_left v known f g h = left_false _ (is_defined v known g) h
+add_left v known f g h = and_left _ (is_defined v known g) h
 
 pub add_right : (v : ℕ → ℚ) (known : ℕ → Bool) (f g : Expression ℕ) → is_defined v known g ≡ false → is_defined v known (Add f g) ≡ false
 unfolding is_defined
-add_right v known f g h = right_false (is_defined v known f) _ h
+add_right v known f g h = and_right (is_defined v known f) _ h
 
 pub sub_left : (v : ℕ → ℚ) (known : ℕ → Bool) (f g : Expression ℕ) → is_defined v known f ≡ false → is_defined v known (Sub f g) ≡ false
 unfolding is_defined
-sub_left v known f g h = left_false _ (is_defined v known g) h
+sub_left v known f g h = and_left _ (is_defined v known g) h
 
 pub sub_right : (v : ℕ → ℚ) (known : ℕ → Bool) (f g : Expression ℕ) → is_defined v known g ≡ false → is_defined v known (Sub f g) ≡ false
 unfolding is_defined
-sub_right v known f g h = right_false (is_defined v known f) _ h
+sub_right v known f g h = and_right (is_defined v known f) _ h
 
 pub mul_left : (v : ℕ → ℚ) (known : ℕ → Bool) (f g : Expression ℕ) → is_defined v known f ≡ false → is_defined v known (Mul f g) ≡ false
 unfolding is_defined
-mul_left v known f g h = left_false _ (is_defined v known g) h
+mul_left v known f g h = and_left _ (is_defined v known g) h
 
 pub mul_right : (v : ℕ → ℚ) (known : ℕ → Bool) (f g : Expression ℕ) → is_defined v known g ≡ false → is_defined v known (Mul f g) ≡ false
 unfolding is_defined
-mul_right v known f g h = right_false (is_defined v known f) _ h
+mul_right v known f g h = and_right (is_defined v known f) _ h
 
 pub div_left : (v : ℕ → ℚ) (known : ℕ → Bool) (f g : Expression ℕ) → is_defined v known f ≡ false → is_defined v known (Div f g) ≡ false
 unfolding is_defined
-div_left v known f g h = first_false (is_defined v known f) (is_defined v known g) (not (is_zero_ℚ (value v g))) h
+div_left v known f g h = and_left (is_defined v known f && is_defined v known g) (not (is_zero_ℚ (value v g))) (and_left (is_defined v known f) _ h)
 
 pub div_right : (v : ℕ → ℚ) (known : ℕ → Bool) (f g : Expression ℕ) → is_defined v known g ≡ false → is_defined v known (Div f g) ≡ false
 unfolding is_defined
-div_right v known f g h = middle_false (is_defined v known f) (is_defined v known g) (not (is_zero_ℚ (value v g))) h
+div_right v known f g h = and_left (is_defined v known f && is_defined v known g) (not (is_zero_ℚ (value v g))) (and_right (is_defined v known f) _ h)
 
 pub neg_part : (v : ℕ → ℚ) (known : ℕ → Bool) (f : Expression ℕ) → is_defined v known f ≡ false → is_defined v known (Neg f) ≡ false
 unfolding is_defined
@@ -189,7 +172,7 @@ neg_part v known f h = h
 
 pub pow_part : (v : ℕ → ℚ) (known : ℕ → Bool) (f : Expression ℕ) (n : ℤ) → is_defined v known f ≡ false → is_defined v known (Pow f n) ≡ false
 unfolding is_defined
-pow_part v known f n h = left_false (is_defined v known f) (has_power (value v f) n) h
+pow_part v known f n h = and_left (is_defined v known f) (has_power (value v f) n) h
 
 -- ---- the expansion of what is written
 pub replaced_add : (s : ℕ → Expression ℕ) (f g h : Expression ℕ) → f ≡ Add g h → replaced s f ≡ Add (replaced s g) (replaced s h)

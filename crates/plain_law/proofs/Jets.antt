@@ -1,6 +1,7 @@
 -- The jets of sums, products, quotients and powers, by those of their parts.
-use Rattle.std.specs.Prelude.{◌≡◌, ℕ, zero, suc, ◌-◌, Bool, true, false, not, cond, ◌&&◌, ℤ, pos, negsuc, ◌<ℤ◌, unsigned_abs, nat_eq, refl}
+use Rattle.std.specs.Prelude.{◌≡◌, ℕ, zero, suc, ◌-◌, Bool, true, false, not, cond, ◌&&◌, ℤ, pos, negsuc, ◌<ℤ◌, unsigned_abs, nat_eq}
 use Rattle.std.proofs.Common.{sym, ◌∙◌, ap, ap₂, arith}
+use Rattle.std.proofs.lemmas.Bool.{and_from, and_right}
 use Rattle.std.proofs.lemmas.Int.{ints}
 use Rattle.exact_fraction.specs.Number.{ℚ, of_ℤ, ◌+ℚ◌, ◌*ℚ◌, ◌/ℚ◌, neg_ℚ, is_zero_ℚ, ◌-ℚ◌}
 use Rattle.exact_fraction.specs.Powers.{power, whole_power}
@@ -11,18 +12,6 @@ use Rattle.plain_law.specs.Numbers.{number}
 use Rattle.plain_law.specs.Models.{IsJetOf}
 
 -- ---- tests
-all_three : (a b c : Bool) → a ≡ true → b ≡ true → c ≡ true → (a && b && c) ≡ true
-all_three a b c e f g = rw (e, f, g) refl
-
-last_false : (a b c : Bool) → c ≡ false → (a && b && c) ≡ false
-last_false true true c h = h
-last_false true false c h = refl
-last_false false b c h = refl
-
-right_false : (a b : Bool) → b ≡ false → (a && b) ≡ false
-right_false true b h = h
-right_false false b h = refl
-
 pub unit_same : (x : ℚ) (n m : ℕ) → nat_eq n m ≡ true → x ≡ of_ℤ (pos 1) → x ≡ unit nat_eq n m
 unfolding unit
 unit_same x n m h e = e ∙ ap (λ b. cond b (of_ℤ (pos 1)) (of_ℤ (pos 0))) (sym h)
@@ -79,7 +68,7 @@ unfolding is_defined value slope
 quotient_jet v d known f g a b j s t h i z e es et k =
     let value_is = e ∙ ap₂ (λ x y. x /ℚ y) h.value_is i.value_is in
     record {
-      defined = all_three _ _ _ h.defined i.defined (ap not (ap is_zero_ℚ (sym i.value_is) ∙ z));
+      defined = and_from _ _ (and_from _ _ h.defined i.defined) (ap not (ap is_zero_ℚ (sym i.value_is) ∙ z));
       value_is = value_is;
       slope_is = k ∙ ap₂ (λ x y. x /ℚ y) (et ∙ ap₂ (λ x y. x -ℚ y) h.slope_is (es ∙ ap₂ ◌*ℚ◌ value_is i.slope_is)) i.value_is;
     }
@@ -88,7 +77,7 @@ pub quotient_undefined : (v d : ℕ → ℚ) (known : ℕ → Bool) (f g : Expre
     → is_zero_ℚ (number b.value) ≡ true → is_defined v known (Div f g) ≡ false
 unfolding is_defined
 quotient_undefined v d known f g b i z =
-    last_false (is_defined v known f) (is_defined v known g) _ (ap not (ap is_zero_ℚ (sym i.value_is) ∙ z))
+    and_right (is_defined v known f && is_defined v known g) _ (ap not (ap is_zero_ℚ (sym i.value_is) ∙ z))
 
 pub power_jet : (v d : ℕ → ℚ) (known : ℕ → Bool) (f : Expression ℕ) (n m k : ℤ) (a j : Jet) (s : Exact) → m ≡ n → k ≡ n → IsJetOf v d known f a
     → has_power (number a.value) m ≡ true → number j.value ≡ whole_power (number a.value) m
@@ -109,7 +98,7 @@ pub power_undefined : (v d : ℕ → ℚ) (known : ℕ → Bool) (f : Expression
     → is_zero_ℚ (number a.value) ≡ true → is_defined v known (Pow f n) ≡ false
 unfolding is_defined
 power_undefined v d known f n a h l z =
-    right_false (is_defined v known f) _ (ap (λ x. has_power x n) (sym h.value_is) ∙ no_power (number a.value) n l z)
+    and_right (is_defined v known f) _ (ap (λ x. has_power x n) (sym h.value_is) ∙ no_power (number a.value) n l z)
 
 -- ---- the derivative of a power
 pub slope_still : (x y : ℚ) (n w : ℤ) → w ≡ n → y ≡ of_ℤ w → n ≡ pos 0 → y ≡ power_slope x n

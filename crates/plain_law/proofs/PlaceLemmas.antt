@@ -1,10 +1,10 @@
 -- Units of places, and squares of them.
-use Rattle.std.specs.Prelude.{◌≡◌, ℕ, ◌*◌, Bool, true, false, pos, ◌+ℤ◌, refl}
+use Rattle.std.specs.Prelude.{◌≡◌, ℕ, ◌*◌, Bool, true, pos, ◌+ℤ◌, refl}
 use Rattle.std.proofs.Common.{sym, ◌∙◌, ap, subst}
-use std.Quotient.{/_rec}
-use Rattle.exact_fraction.specs.Number.{ℚ, of_ℤ, ◌*ℚ◌, ◌/ℚ◌, is_zero_ℚ, is_at_most_ℚ, ◌≤ℚ◌, ◌<ℚ◌}
+use Rattle.std.proofs.Math.Dec.{lit<}
+use Rattle.exact_fraction.specs.Number.{ℚ, of_ℤ, ◌*ℚ◌, ◌/ℚ◌, is_at_most_ℚ, ◌≤ℚ◌, ◌<ℚ◌}
 use Rattle.exact_fraction.proofs.OrderLaws.{≤ℚ_left}
-use Rattle.exact_fraction.proofs.Quotients.{*ℚ-/ℚ}
+use Rattle.exact_fraction.proofs.Quotients.{positive_not_zero, *ℚ-/ℚ}
 use Rattle.exact_fraction.specs.Powers.{power}
 use Rattle.exact_law.specs.Rounding.{ten_to, scaled_square}
 use Rattle.exact_law.proofs.RoundingLaws.{ten_to-next, ten_times}
@@ -13,10 +13,6 @@ use Rattle.plain_law.specs.declared.place.Place.{Place}
 use Rattle.plain_law.specs.DigitViews.{HasUnit}
 
 -- ---- units
-ten_not_zero : is_zero_ℚ (of_ℤ (pos 10)) ≡ false
-unfolding is_zero_ℚ /_rec
-ten_not_zero = refl
-
 pub HasUnit-ones : (q : Place) → q.exponent ≡ pos 0 → number q.unit ≡ of_ℤ (pos 1) → HasUnit q
 unfolding ten_to power
 HasUnit-ones q e h = record { unit = h ∙ sym (ap ten_to e) }
@@ -28,7 +24,7 @@ HasUnit-next p q u e h = record {
 
 pub HasUnit-previous : (p q : Place) → HasUnit p → p.exponent ≡ (q.exponent +ℤ pos 1) → number q.unit ≡ number p.unit /ℚ of_ℤ (pos 10) → HasUnit q
 HasUnit-previous p q u e h = record {
-  unit = h ∙ ap (λ t. t /ℚ of_ℤ (pos 10)) (u.unit ∙ ap ten_to e ∙ ten_to-next q.exponent) ∙ *ℚ-/ℚ (ten_to q.exponent) (of_ℤ (pos 10)) ten_not_zero;
+  unit = h ∙ ap (λ t. t /ℚ of_ℤ (pos 10)) (u.unit ∙ ap ten_to e ∙ ten_to-next q.exponent) ∙ *ℚ-/ℚ (ten_to q.exponent) (of_ℤ (pos 10)) (positive_not_zero 10 (lit< tt));
 }
 
 -- ---- squares

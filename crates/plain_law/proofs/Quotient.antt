@@ -3,16 +3,18 @@ use Rattle.std.specs.Prelude.{◌≡◌, ℕ, zero, suc, ◌*◌, ◌/◌, ◌<�
 use Rattle.std.proofs.Common.{sym, ◌∙◌, ap, ap₂, arith}
 use Rattle.std.proofs.lemmas.Int.{ints}
 use Rattle.std.proofs.lemmas.Bool.{true≢false}
+use Rattle.std.specs.Cmp.{both_ways}
 use Rattle.std.proofs.Math.Nat.{div-mul_cancel}
 use std.Quotient.{eq/, /_rec}
 use Prim.Native.Nat.{◌∣◌}
 use Rattle.std.proofs.Math.Dec.{eqb-suc-zero}
-use Rattle.exact_fraction.specs.Fraction.{Fraction, whole, is_zero_ℤ, inverse}
+use Rattle.exact_fraction.specs.Fraction.{Fraction, whole, inverse}
 use Rattle.exact_fraction.specs.Whole.{diff_same, push}
 use Rattle.exact_fraction.specs.Number.{ℚ, number_of, of_ℤ, ◌+ℚ◌, ◌*ℚ◌, ◌/ℚ◌, neg_ℚ, inv_ℚ, is_zero_ℚ, is_at_most_ℚ, ◌-ℚ◌}
 use Rattle.exact_fraction.specs.NumberLaws.{of_ℤ-+, of_ℤ-*, of_ℤ-neg, ≤ℚ-of_≼, ≼-of_≤ℚ}
 use Rattle.exact_fraction.proofs.OrderLaws.{≤ℚ-difference, ≤ℚ-of_difference}
-use Rattle.exact_fraction.proofs.Quotients.{/ℚ-*ℚ, ≡-/ℚ, number_of-parts}
+use Rattle.exact_fraction.proofs.Quotients.{positive_not_zero, /ℚ-*ℚ, ≡-/ℚ, number_of-parts}
+use Rattle.exact_fraction.proofs.Signs.{of_pos-*}
 use Rattle.exact_fraction.proofs.Ring.{Whole, ◌:+◌, ◌:*◌, Minus, x0, x1, x2, x3, x4, ring}
 use Rattle.plain_law.specs.Numbers.{signed, differ}
 
@@ -32,19 +34,8 @@ pub positive_part : (g d : ℕ) → g ∣ d → 0 < d → 0 < d / g
 positive_part g d h d0 = left_factor (d / g) g d (div-mul_cancel g h) d0
 
 -- ---- quotients
-positive_num : (k : ℕ) → 0 < k → is_zero_ℤ (pos k) ≡ false
-positive_num zero h = absurd (omega arith)
-positive_num (suc k) h = refl
-
-pub not_zero : (k : ℕ) → 0 < k → is_zero_ℚ (of_ℤ (pos k)) ≡ false
-unfolding is_zero_ℚ /_rec
-not_zero k h = positive_num k h
-
 pub quotient_by : (q x y : ℚ) → is_zero_ℚ y ≡ false → q *ℚ y ≡ x → q ≡ x /ℚ y
 quotient_by q x y n h = (≡-/ℚ q x y n).1 h
-
-pos-* : (a b : ℕ) → of_ℤ (pos (a * b)) ≡ of_ℤ (pos a) *ℚ of_ℤ (pos b)
-pos-* a b = of_ℤ-* (pos a) (pos b)
 
 signed-* : (s : Bool) (a g : ℕ) → signed s (a * g) ≡ (signed s a *ℤ pos g)
 signed-* false a g = refl
@@ -60,10 +51,10 @@ scaled a b g n = ring ((a /ℚ b) ∷ b ∷ g ∷ []) (x0 :* (x1 :* x2)) ((x0 :*
 lowest_by : (s : Bool) (n d a b g : ℕ) → 0 < d → 0 < b → a * g ≡ n → b * g ≡ d
     → of_ℤ (signed s a) /ℚ of_ℤ (pos b) ≡ of_ℤ (signed s n) /ℚ of_ℤ (pos d)
 lowest_by s n d a b g d0 b0 e f =
-    quotient_by (of_ℤ (signed s a) /ℚ of_ℤ (pos b)) (of_ℤ (signed s n)) (of_ℤ (pos d)) (not_zero d d0)
+    quotient_by (of_ℤ (signed s a) /ℚ of_ℤ (pos b)) (of_ℤ (signed s n)) (of_ℤ (pos d)) (positive_not_zero d d0)
     (ap (λ t. (of_ℤ (signed s a) /ℚ of_ℤ (pos b)) *ℚ of_ℤ (pos t)) (sym f)
-    ∙ ap (λ t. (of_ℤ (signed s a) /ℚ of_ℤ (pos b)) *ℚ t) (pos-* b g)
-    ∙ scaled (of_ℤ (signed s a)) (of_ℤ (pos b)) (of_ℤ (pos g)) (not_zero b b0)
+    ∙ ap (λ t. (of_ℤ (signed s a) /ℚ of_ℤ (pos b)) *ℚ t) (of_pos-* b g)
+    ∙ scaled (of_ℤ (signed s a)) (of_ℤ (pos b)) (of_ℤ (pos g)) (positive_not_zero b b0)
     ∙ sym (signed-*ℚ s a g) ∙ ap (λ t. of_ℤ (signed s t)) e)
 
 pub lowest : (s : Bool) (n d g : ℕ) → 0 < d → g ∣ n → g ∣ d
@@ -74,7 +65,7 @@ lowest s n d g d0 h k =
 -- a whole number is itself divided by 1
 pub whole_by : (z : ℤ) (s : Bool) (n : ℕ) → z ≡ signed s n → of_ℤ (signed s n) /ℚ of_ℤ (pos 1) ≡ of_ℤ z
 whole_by z s n e =
-    sym (quotient_by (of_ℤ z) (of_ℤ (signed s n)) (of_ℤ (pos 1)) (not_zero 1 (omega arith))
+    sym (quotient_by (of_ℤ z) (of_ℤ (signed s n)) (of_ℤ (pos 1)) (positive_not_zero 1 (omega arith))
     (ring (of_ℤ z ∷ []) (x0 :* Whole (pos 1)) x0 refl ∙ ap of_ℤ e))
 
 -- ---- sums
@@ -89,17 +80,17 @@ sum_of x y a b d p q g e f h =
 times_divisor : (z : ℤ) (d p g : ℕ) → 0 < d → p * g ≡ d
     → (of_ℤ z /ℚ of_ℤ (pos d)) *ℚ (of_ℤ (pos p) *ℚ of_ℤ (pos g)) ≡ of_ℤ z
 times_divisor z d p g d0 e =
-    ap (λ t. (of_ℤ z /ℚ of_ℤ (pos d)) *ℚ t) (sym (pos-* p g) ∙ ap (λ t. of_ℤ (pos t)) e)
-    ∙ /ℚ-*ℚ (of_ℤ z) (of_ℤ (pos d)) (not_zero d d0)
+    ap (λ t. (of_ℤ z /ℚ of_ℤ (pos d)) *ℚ t) (sym (of_pos-* p g) ∙ ap (λ t. of_ℤ (pos t)) e)
+    ∙ /ℚ-*ℚ (of_ℤ z) (of_ℤ (pos d)) (positive_not_zero d d0)
 
 sum_by : (y z : ℤ) (d e p q g : ℕ) → 0 < d → 0 < e → 0 < d * q → p * g ≡ d → q * g ≡ e
     → of_ℤ ((y *ℤ pos q) +ℤ (z *ℤ pos p)) /ℚ of_ℤ (pos (d * q)) ≡ (of_ℤ y /ℚ of_ℤ (pos d)) +ℚ (of_ℤ z /ℚ of_ℤ (pos e))
 sum_by y z d e p q g d0 e0 dq0 dp eq =
     sym (quotient_by ((of_ℤ y /ℚ of_ℤ (pos d)) +ℚ (of_ℤ z /ℚ of_ℤ (pos e))) (of_ℤ ((y *ℤ pos q) +ℤ (z *ℤ pos p))) (of_ℤ (pos (d * q)))
-    (not_zero (d * q) dq0)
-    (ap (λ t. ((of_ℤ y /ℚ of_ℤ (pos d)) +ℚ (of_ℤ z /ℚ of_ℤ (pos e))) *ℚ t) (pos-* d q)
+    (positive_not_zero (d * q) dq0)
+    (ap (λ t. ((of_ℤ y /ℚ of_ℤ (pos d)) +ℚ (of_ℤ z /ℚ of_ℤ (pos e))) *ℚ t) (of_pos-* d q)
     ∙ sum_of (of_ℤ y /ℚ of_ℤ (pos d)) (of_ℤ z /ℚ of_ℤ (pos e)) (of_ℤ y) (of_ℤ z) (of_ℤ (pos d)) (of_ℤ (pos p)) (of_ℤ (pos q)) (of_ℤ (pos g))
-    (times_divisor y d p g d0 dp) (times_divisor z e q g e0 eq) (sym (ap (λ t. of_ℤ (pos t)) dp) ∙ pos-* p g)
+    (times_divisor y d p g d0 dp) (times_divisor z e q g e0 eq) (sym (ap (λ t. of_ℤ (pos t)) dp) ∙ of_pos-* p g)
     ∙ sym (of_ℤ-+ (y *ℤ pos q) (z *ℤ pos p) ∙ ap₂ ◌+ℚ◌ (of_ℤ-* y (pos q)) (of_ℤ-* z (pos p)))))
 
 -- the sum over the least common multiple of the divisors
@@ -126,10 +117,10 @@ pub product : (s t : Bool) (m n d e : ℕ) → 0 < d → 0 < e → 0 < d * e
     ≡ (of_ℤ (signed s m) /ℚ of_ℤ (pos d)) *ℚ (of_ℤ (signed t n) /ℚ of_ℤ (pos e))
 product s t m n d e d0 e0 de0 =
     sym (quotient_by ((of_ℤ (signed s m) /ℚ of_ℤ (pos d)) *ℚ (of_ℤ (signed t n) /ℚ of_ℤ (pos e))) _ (of_ℤ (pos (d * e)))
-    (not_zero (d * e) de0)
-    (ap (λ v. ((of_ℤ (signed s m) /ℚ of_ℤ (pos d)) *ℚ (of_ℤ (signed t n) /ℚ of_ℤ (pos e))) *ℚ v) (pos-* d e)
+    (positive_not_zero (d * e) de0)
+    (ap (λ v. ((of_ℤ (signed s m) /ℚ of_ℤ (pos d)) *ℚ (of_ℤ (signed t n) /ℚ of_ℤ (pos e))) *ℚ v) (of_pos-* d e)
     ∙ product_of _ _ (of_ℤ (signed s m)) (of_ℤ (pos d)) (of_ℤ (signed t n)) (of_ℤ (pos e))
-    (/ℚ-*ℚ (of_ℤ (signed s m)) (of_ℤ (pos d)) (not_zero d d0)) (/ℚ-*ℚ (of_ℤ (signed t n)) (of_ℤ (pos e)) (not_zero e e0))
+    (/ℚ-*ℚ (of_ℤ (signed s m)) (of_ℤ (pos d)) (positive_not_zero d d0)) (/ℚ-*ℚ (of_ℤ (signed t n)) (of_ℤ (pos e)) (positive_not_zero e e0))
     ∙ sym (ap of_ℤ (signed-differ s t m n) ∙ of_ℤ-* (signed s m) (signed t n))))
 
 -- the two divisors may change places
@@ -173,11 +164,6 @@ zero_fraction true (suc n) d d0 = eqb-suc-zero n
 pub zero_test : (s : Bool) (n d : ℕ) → 0 < d → nat_eq n 0 ≡ is_zero_ℚ (of_ℤ (signed s n) /ℚ of_ℤ (pos d))
 zero_test s n d d0 = zero_fraction s n d d0 ∙ ap is_zero_ℚ (number_of-parts (part (signed s n) d d0))
 
-pub same_tests : (a b : Bool) → (a ≡ true → b ≡ true) → (b ≡ true → a ≡ true) → a ≡ b
-same_tests true b h k = sym (h refl)
-same_tests false true h k = k refl
-same_tests false false h k = refl
-
 sign_order : (s : Bool) (n d : ℕ) → (not s || nat_eq n 0) ≡ true → (pos 0 *ℤ pos d) ≤ℤ (signed s n *ℤ pos 1)
 sign_order false n d h = omega (arith, ints)
 sign_order true zero d h = omega (arith, ints)
@@ -191,7 +177,7 @@ order_sign true (suc n) d h = absurd (omega (arith, ints))
 sign_fraction : (s : Bool) (n d : ℕ) (d0 : 0 < d)
     → (not s || nat_eq n 0) ≡ is_at_most_ℚ (of_ℤ (pos 0)) (number_of (part (signed s n) d d0))
 sign_fraction s n d d0 =
-    same_tests (not s || nat_eq n 0) (is_at_most_ℚ (of_ℤ (pos 0)) (number_of (part (signed s n) d d0)))
+    both_ways (not s || nat_eq n 0) (is_at_most_ℚ (of_ℤ (pos 0)) (number_of (part (signed s n) d d0)))
     (λ h. (≤ℚ-of_≼ (whole (pos 0)) (part (signed s n) d d0) (record { at_most = sign_order s n d h })).holds)
     (λ h. order_sign s n d (≼-of_≤ℚ (whole (pos 0)) (part (signed s n) d d0) (record { holds = h })).at_most)
 
@@ -203,4 +189,4 @@ sign_test s n d d0 =
 -- the order by the sign of the difference
 pub by_difference : (x y : ℚ) → is_at_most_ℚ (of_ℤ (pos 0)) (y -ℚ x) ≡ is_at_most_ℚ x y
 by_difference x y =
-    same_tests _ _ (λ h. (≤ℚ-of_difference x y (record { holds = h })).holds) (λ h. (≤ℚ-difference x y (record { holds = h })).holds)
+    both_ways _ _ (λ h. (≤ℚ-of_difference x y (record { holds = h })).holds) (λ h. (≤ℚ-difference x y (record { holds = h })).holds)

@@ -1,22 +1,18 @@
 -- Conditions for all limits, from those at each.
-use Rattle.std.specs.Prelude.{◌≡◌, ℕ, ◌+◌, ◌<◌, ◌≤◌, Bool, true, false, ◌&&◌, List, [], ◌∷◌, ◌++◌, map, length, drop, refl}
+use Rattle.std.specs.Prelude.{◌≡◌, ℕ, ◌+◌, ◌<◌, ◌≤◌, Bool, ◌&&◌, List, [], ◌∷◌, ◌++◌, map, length, drop, refl}
 use Rattle.std.proofs.Common.{sym, ◌∙◌, ap, get_or}
-use Rattle.std.proofs.lemmas.List.{drop_all}
+use Rattle.std.proofs.Math.Bool.{and_assoc}
+use Rattle.std.proofs.lemmas.List.{drop_all, drop_more}
 use Rattle.exact_fraction.specs.Number.{ℚ}
 use Rattle.exact_law.specs.WrittenRule.{Rule, Span, Answer, Yes, No, Unsettled, all_of, all_over, both, above_lower, below_upper, distances, guard_square, is_guarded, is_inside, is_near, stated, stated_at, stated_by}
 use Rattle.plain_law.specs.declared.interval_rule.Span.{Span as HeldSpan}
 use Rattle.plain_law.specs.RuleViews.{span_of}
-use Rattle.plain_law.proofs.DegreeLemmas.{next-drop}
 
 -- ---- over exact numbers
-and_assoc : (a b c : Bool) → (a && (b && c)) ≡ ((a && b) && c)
-and_assoc true b c = refl
-and_assoc false b c = refl
-
 all_of-append : (p : ℚ → Bool) (xs ys : List ℚ) → all_of p (xs ++ ys) ≡ (all_of p xs && all_of p ys)
 unfolding all_of
 all_of-append p [] ys = refl
-all_of-append p (x ∷ xs) ys = ap (λ t. p x && t) (all_of-append p xs ys) ∙ and_assoc (p x) (all_of p xs) (all_of p ys)
+all_of-append p (x ∷ xs) ys = ap (λ t. p x && t) (all_of-append p xs ys) ∙ sym (and_assoc (p x) (all_of p xs) (all_of p ys))
 
 pub joined_with : {a b c d e : Bool} → a ≡ (b && c) → b ≡ d → c ≡ e → a ≡ (d && e)
 joined_with h k l = cc
@@ -61,6 +57,9 @@ both_assoc Unsettled Unsettled Unsettled = refl
 pub yes_both : (a : Answer) → both Yes a ≡ a
 unfolding both
 yes_both a = refl
+
+next-drop : {A : Type 0} (xs : List A) (i : ℕ) (x : A) → i < length xs → x ≡ get_or xs i x → drop i xs ≡ x ∷ drop (i + 1) xs
+next-drop xs i x h e = drop_more xs i x h ∙ ap (λ t. t ∷ drop (i + 1) xs) (sym e)
 
 pub all_over-next : (p : Span → Answer) (spans : List HeldSpan) (i : ℕ) (s : HeldSpan) (x y t : Answer) → i < length spans → s ≡ get_or spans i s
     → y ≡ p (span_of s) → both x (all_over p (map span_of (drop i spans))) ≡ t

@@ -1,7 +1,7 @@
 -- Values and derivatives by the jet of the expansion.
 use Rattle.std.specs.Prelude.{◌≡◌, ℕ, suc, Bool, true, false, cond, ◌&&◌, unwrap_or, is_none, Option, Some, None, Result, Ok, Err, List, [], ◌∷◌, length, nat_eq, refl}
 use Rattle.std.proofs.Common.{sym, ◌∙◌, ap, ap₂, subst}
-use Rattle.std.proofs.lemmas.Bool.{true≢false}
+use Rattle.std.proofs.lemmas.Bool.{and_left, and_right, true≢false}
 use Rattle.std.specs.Option.{is_some}
 use Rattle.std.specs.Result.{IsErrAnd}
 use Rattle.exact_fraction.specs.Number.{ℚ}
@@ -13,7 +13,6 @@ use Rattle.plain_law.specs.declared.model.Failure.TheVariants.{Undefined, TooWid
 use Rattle.plain_law.specs.declared.model.Body.{Body as WrittenBody}
 use Rattle.plain_law.specs.Numbers.{number}
 use Rattle.plain_law.specs.Models.{rows_from, rows, IsAnswer, IsJetOf, IsJetOrFailure}
-use Rattle.plain_law.proofs.Expansions.{left_false, right_false}
 
 length-rows_from : (k : ℕ) (bs : List WrittenBody) → length (rows_from k bs) ≡ length bs
 unfolding rows_from
@@ -117,13 +116,13 @@ pub both-failed_first : (bs : List WrittenBody) (y z : ℕ) (e : Failure) (r : R
     → IsAnswer (Err e) (value_of nat_eq (rows bs) y)
     → IsAnswer r (cond (has_value nat_eq (rows bs) y && has_value nat_eq (rows bs) z) (Some x) None)
 both-failed_first bs y z e r x i h =
-    needed bs y e r _ x i (left_false (has_value nat_eq (rows bs) y) (has_value nat_eq (rows bs) z)) h
+    needed bs y e r _ x i (and_left (has_value nat_eq (rows bs) y) (has_value nat_eq (rows bs) z)) h
 
 pub both-failed_second : (bs : List WrittenBody) (y z : ℕ) (e : Failure) (r : Result Exact Failure) (x : ℚ) → IsErrAnd r (λ f. f ≡ e)
     → IsAnswer (Err e) (value_of nat_eq (rows bs) z)
     → IsAnswer r (cond (has_value nat_eq (rows bs) y && has_value nat_eq (rows bs) z) (Some x) None)
 both-failed_second bs y z e r x i h =
-    needed bs z e r _ x i (right_false (has_value nat_eq (rows bs) y) (has_value nat_eq (rows bs) z)) h
+    needed bs z e r _ x i (and_right (has_value nat_eq (rows bs) y) (has_value nat_eq (rows bs) z)) h
 
 pub both-answer : (bs : List WrittenBody) (y z : ℕ) (p q r : Exact) (x : ℚ) → value_of nat_eq (rows bs) y ≡ Some (number p)
     → value_of nat_eq (rows bs) z ≡ Some (number q) → number r ≡ x

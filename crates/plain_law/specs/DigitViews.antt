@@ -1,6 +1,6 @@
 -- What a place and the two digits that the code holds are.
-use Rattle.std.specs.Prelude.{◌≡◌, ℕ, ◌+◌, ◌*◌, ◌≤◌, ℤ, pos}
-use Rattle.exact_fraction.specs.Number.{ℚ, of_ℤ, ◌≤ℚ◌, ◌<ℚ◌}
+use Rattle.std.specs.Prelude.{◌≡◌, ℕ, ◌+◌, ◌*◌, ◌≤◌, ℤ}
+use Rattle.exact_fraction.specs.Number.{ℚ, ◌≤ℚ◌, ◌<ℚ◌}
 use Rattle.exact_law.specs.Rounding.{ten_to, least_root, scaled_square, Digits, Zero, Two}
 use Rattle.plain_law.specs.Numbers.{number}
 use Rattle.plain_law.specs.declared.place.Place.{Place}

@@ -1,9 +1,8 @@
 use Rattle.std.specs.Prelude.{nat_eq}
 use Rattle.std.proofs.Common.{◌∙◌, ap, ap₂, sym}
 use Rattle.std.proofs.lemmas.Option.{IfSome_then}
-use Rattle.exact_fraction.specs.Number.{◌+ℚ◌, ◌*ℚ◌}
-use Rattle.exact_law.specs.Law.{cell, covariance_in}
-use Rattle.plain_law.specs.Numbers.{number}
+use Rattle.exact_fraction.specs.Number.{◌+ℚ◌}
+use Rattle.exact_law.specs.Law.{covariance_in}
 use Rattle.plain_law.specs.Groups.{group_of}
 use Rattle.plain_law.proofs.covariances.covariance_in.Goals as goal
 

@@ -1,11 +1,9 @@
 use Rattle.std.specs.Prelude.{nat_eq}
 use Rattle.std.proofs.Common.{◌∙◌, ap, ap₂, sym}
 use Rattle.std.proofs.lemmas.Option.{IfSome_then}
-use Rattle.exact_fraction.specs.Number.{◌+ℚ◌, ◌*ℚ◌}
-use Rattle.exact_law.specs.Model.{exact_slope}
+use Rattle.exact_fraction.specs.Number.{◌+ℚ◌}
 use Rattle.exact_law.specs.Law.{part_of}
 use Rattle.exact_law.specs.Law.{part as exact_part}
-use Rattle.plain_law.specs.Numbers.{number}
 use Rattle.plain_law.specs.Models.{rows}
 use Rattle.plain_law.specs.Groups.{group_of}
 use Rattle.plain_law.proofs.propagation.part.Goals as goal
