@@ -1,15 +1,16 @@
 -- What a point and a span that was rounded outwards enclose.
-use Rattle.std.specs.Prelude.{◌≡◌, Option, None, Some, Result, IfOk, ℤ, pos, refl}
+use Rattle.std.specs.Prelude.{◌≡◌, Option, None, Some, IsSome, is_some, Result, IfOk, ℤ, pos, refl}
 use Rattle.std.specs.Option.{ok_or, ForSome}
 use Rattle.std.proofs.Common.{sym, ap, subst, ◌∙◌}
+use Rattle.std.proofs.lemmas.Bool.{false≢true}
 use Rattle.std.proofs.lemmas.Option.{none-some, same_Some}
 use Rattle.exact_fraction.specs.Number.{ℚ, of_ℤ, ◌+ℚ◌, ◌≤ℚ◌}
 use Rattle.exact_fraction.specs.NumberLaws.{≤ℚ_refl, ≤ℚ_trans, +ℚ-≤ℚ_both}
 use Rattle.decimal18.specs.Bound.{Bound, scaled, value_of}
-use Rattle.decimal18.specs.Down.{down, up}
+use Rattle.decimal18.specs.Down.{down, up, IsInRange}
 use Rattle.decimal18.proofs.Values.{value-whole}
-use Rattle.decimal18.proofs.Rounding.{down_some}
-use Rattle.decimal18.proofs.Upward.{up_some}
+use Rattle.decimal18.proofs.Rounding.{down_some, down_none}
+use Rattle.decimal18.proofs.Upward.{up_some, up_none}
 use Rattle.fixed_interval.specs.Interval.{Interval, Encloses, IsOrdered, from_ends, outward, point_span, sum_span}
 use Rattle.fixed_interval.specs.Rules.{one_bound}
 use Rattle.fixed_interval.specs.Sums.{zero_span}
@@ -47,6 +48,20 @@ pub outward-ends : (least greatest : ℚ) (lo hi : Option Bound) → lo ≡ down
     → from_ends lo hi ≡ outward least greatest
 unfolding outward
 outward-ends least greatest lo hi e f = rw (e, f) refl
+
+-- it is there where both results are in range
+both_there : (l h : Option Bound) → (l ≡ None → ⊥) → (h ≡ None → ⊥) → IsSome (from_ends l h)
+both_there None h f g = absurd (f refl)
+both_there (Some lo) None f g = absurd (g refl)
+both_there (Some lo) (Some hi) f g = refl
+
+pub outward_there : (least greatest : ℚ) → IsInRange least → IsInRange greatest → IsSome (outward least greatest)
+unfolding outward
+outward_there least greatest h k =
+    both_there (down least) (up greatest) (λ n. down_none least n h) (λ n. up_none greatest n k)
+
+pub no_span : (least greatest : ℚ) → outward least greatest ≡ None → IsInRange least → IsInRange greatest → ⊥
+no_span least greatest e h k = false≢true (sym (ap is_some e) ∙ outward_there least greatest h k)
 
 -- every exact result from the least to the greatest is enclosed
 pub outward_encloses : (least greatest : ℚ) (s : Interval) → outward least greatest ≡ Some s

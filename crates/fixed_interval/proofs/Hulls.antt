@@ -1,25 +1,19 @@
 -- The span that covers two rounded spans is that of the least of their least results and the greatest
 -- of their greatest ones, and there is none exactly where one of the two is out of range.
 use Rattle.std.specs.Prelude.{◌≡◌, Option, None, Some, refl}
-use Rattle.std.proofs.Common.{sym, ap₂, ◌∙◌}
-use Rattle.std.proofs.lemmas.Option.{none-some}
+use Rattle.std.proofs.Common.{ap₂, ◌∙◌}
 use Rattle.exact_fraction.specs.Number.{ℚ, ◌≤ℚ◌, min_ℚ, max_ℚ}
 use Rattle.exact_fraction.specs.NumberLaws.{≤ℚ_refl, ≤ℚ_trans}
 use Rattle.decimal18.specs.Bound.{Bound, value_of}
 use Rattle.decimal18.specs.Down.{down, up, IsInRange}
-use Rattle.decimal18.proofs.Rounding.{down_some, down_none}
-use Rattle.decimal18.proofs.Upward.{up_some, up_none}
-use Rattle.fixed_interval.specs.Interval.{Interval, IsOrdered, from_ends, outward}
+use Rattle.decimal18.proofs.Rounding.{down_some}
+use Rattle.decimal18.proofs.Upward.{up_some}
+use Rattle.fixed_interval.specs.Interval.{Interval, IsOrdered, outward}
 use Rattle.fixed_interval.specs.Extremes.{lesser, greater, hull}
 use Rattle.fixed_interval.specs.Rules.{corners_span}
-use Rattle.fixed_interval.proofs.Enclosures.{outward_ends}
+use Rattle.fixed_interval.proofs.Enclosures.{outward_ends, no_span}
 use Rattle.exact_fraction.proofs.Extremes.{min-≤_left, min-≤_right, max-≥_left, max-≥_right}
 use Rattle.fixed_interval.proofs.Least.{down-min, up-max, lesser-≤_left, greater-≥_left}
-
-no_ends : (l h : Option Bound) → from_ends l h ≡ None → (P : Type 0) → (l ≡ None → P) → (h ≡ None → P) → P
-no_ends None h e P f g = f refl
-no_ends (Some lo) None e P f g = g refl
-no_ends (Some lo) (Some hi) e P f g = absurd (none-some _ (sym e))
 
 -- what was rounded outwards is in range
 pub in_range : (least greatest : ℚ) (s : Interval) → outward least greatest ≡ Some s → (x : ℚ) → least ≤ℚ x → x ≤ℚ greatest → IsInRange x
@@ -33,12 +27,9 @@ in_range least greatest s e x h k =
 -- a span of results between others is there where theirs is
 none_within : (least greatest x y : ℚ) → outward x y ≡ None → least ≤ℚ x → x ≤ℚ y → y ≤ℚ greatest → (o : Option Interval)
     → outward least greatest ≡ o → o ≡ None
-unfolding outward
 none_within least greatest x y e h j k None g = refl
 none_within least greatest x y e h j k (Some s) g =
-    absurd (no_ends (down x) (up y) e ⊥
-    (λ n. down_none x n (in_range least greatest s g x h (≤ℚ_trans _ _ _ j k)))
-    (λ n. up_none y n (in_range least greatest s g y (≤ℚ_trans _ _ _ h j) k)))
+    absurd (no_span x y e (in_range least greatest s g x h (≤ℚ_trans _ _ _ j k)) (in_range least greatest s g y (≤ℚ_trans _ _ _ h j) k))
 
 pub outward_none : (least greatest x y : ℚ) → outward x y ≡ None → least ≤ℚ x → x ≤ℚ y → y ≤ℚ greatest → outward least greatest ≡ None
 outward_none least greatest x y e h j k = none_within least greatest x y e h j k (outward least greatest) refl

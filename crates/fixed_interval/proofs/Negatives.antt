@@ -1,6 +1,5 @@
 -- The negatives of the numbers in a span.
 use Rattle.std.proofs.Common.{sym}
-use Rattle.exact_fraction.specs.Fraction as fraction
 use Rattle.exact_fraction.specs.Number.{ℚ, neg_ℚ, ◌≤ℚ◌}
 use Rattle.exact_fraction.specs.NumberLaws.{neg_ℚ-≤ℚ}
 use Rattle.exact_fraction.proofs.OrderLaws.{≤ℚ_left, ≤ℚ_right}

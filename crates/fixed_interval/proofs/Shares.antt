@@ -1,6 +1,6 @@
 -- The span of the shares of a part in a whole.
-use Rattle.std.specs.Prelude.{◌≡◌, Bool, true, false, cond, Option, None, Some, IsSome, pos, refl, [], ◌∷◌}
-use Rattle.std.proofs.Common.{sym, ◌∙◌, arith}
+use Rattle.std.specs.Prelude.{◌≡◌, Bool, true, false, cond, Option, Some, IsSome, pos, refl, [], ◌∷◌}
+use Rattle.std.proofs.Common.{sym, ◌∙◌, subst, arith}
 use Rattle.std.proofs.lemmas.Int.{ints}
 use Rattle.std.proofs.lemmas.Bool.{true≢false, cond-true, cond-false}
 use Rattle.exact_fraction.specs.Number.{ℚ, of_ℤ, ◌/ℚ◌, inv_ℚ, is_zero_ℚ, is_at_most_ℚ, ◌≤ℚ◌}
@@ -10,12 +10,10 @@ use Rattle.exact_fraction.proofs.OrderLaws.{≤ℚ_right, *ℚ-not_negative, *�
 use Rattle.exact_fraction.proofs.Ring.{◌:*◌, Whole, x0, ring}
 use Rattle.decimal18.specs.Bound.{Bound, value_of}
 use Rattle.decimal18.specs.Down.{down, up, IsInRange}
-use Rattle.decimal18.proofs.Rounding.{down_none}
-use Rattle.decimal18.proofs.Upward.{up_none}
 use Rattle.fixed_interval.specs.Interval.{Interval, Encloses, IsOrdered, from_ends}
 use Rattle.fixed_interval.specs.Rules.{greatest_share, share_span, one_bound}
 use Rattle.decimal18.proofs.Values.{value-whole}
-use Rattle.fixed_interval.proofs.Enclosures.{outward_encloses}
+use Rattle.fixed_interval.proofs.Enclosures.{outward_encloses, outward-ends, outward_there}
 use Rattle.fixed_interval.proofs.Squares.{one_up}
 use Rattle.fixed_interval.proofs.Inclusions.{zero_ℚ, inverse_falls}
 
@@ -123,20 +121,14 @@ from_zero_to_one x h k = record {
   high = ≤ℚ_trans _ _ _ k (of_ℤ-≤ℚ _ _ (omega (arith, ints)));
 }
 
-both_there : (l g : Option Bound) → (l ≡ None → ⊥) → (g ≡ None → ⊥) → IsSome (from_ends l g)
-both_there None g h k = absurd (h refl)
-both_there (Some lo) None h k = absurd (k refl)
-both_there (Some lo) (Some hi) h k = refl
-
 pub share_is_there : (part whole : Interval) → IsPart part whole → IsOrdered whole → (lo hi : Option Bound)
     → lo ≡ down (value_of part.lo /ℚ value_of whole.hi) → hi ≡ up (greatest_share part whole) → IsSome (from_ends lo hi)
 share_is_there part whole h o lo hi e f =
     let least_low : zero_ℚ ≤ℚ value_of part.lo /ℚ value_of whole.hi = share_not_negative _ _ h.not_negative h.positive in
     let order = shares_in_order part whole h o in
     let most = greatest_below_one part whole h in
-    both_there lo hi
-    (λ n. down_none _ (sym e ∙ n) (from_zero_to_one _ least_low (≤ℚ_trans _ _ _ order most)))
-    (λ n. up_none _ (sym f ∙ n) (from_zero_to_one _ (≤ℚ_trans _ _ _ least_low order) most))
+    subst IsSome (sym (outward-ends _ _ lo hi e f))
+    (outward_there _ _ (from_zero_to_one _ least_low (≤ℚ_trans _ _ _ order most)) (from_zero_to_one _ (≤ℚ_trans _ _ _ least_low order) most))
 
 pub share_span_encloses : (part whole s : Interval) → IsPart part whole → share_span part whole ≡ Some s
     → (q r : ℚ) → Encloses part q → Encloses whole r → zero_ℚ ≤ℚ q → q ≤ℚ r → IsAbove r → Encloses s (q /ℚ r)

@@ -1,15 +1,16 @@
 -- What operations on spans that may have left the range enclose, and sums of such spans, some terms at a time.
-use Rattle.std.specs.Prelude.{◌≡◌, List, [], ◌∷◌, ◌++◌, map, Option, None, Some, Ok, Err, pos, refl}
+use Rattle.std.specs.Prelude.{◌≡◌, List, [], ◌∷◌, ◌++◌, map, Option, None, Some, Result, Ok, Err, pos, refl}
 use Rattle.std.specs.Option.{ok_or}
-use Rattle.std.proofs.Common.{◌∙◌, ap, subst}
+use Rattle.std.proofs.Common.{sym, ◌∙◌, ap, subst}
 use Rattle.exact_fraction.specs.Number.{ℚ, ◌+ℚ◌, ◌*ℚ◌, neg_ℚ}
 use Rattle.exact_fraction.specs.Sums.{total}
 use Rattle.exact_fraction.proofs.Ring.{ring, Whole, ◌:+◌, x0, x1, x2}
-use Rattle.fixed_interval.specs.Interval.{Interval, Encloses, sum_span}
+use Rattle.decimal18.specs.Down.{IsInRange}
+use Rattle.fixed_interval.specs.Interval.{Interval, Encloses, outward, sum_span}
 use Rattle.fixed_interval.specs.Rules.{difference_span, product_span}
 use Rattle.fixed_interval.specs.Sums.{both, sum_on, sum_of, sum_after, Holds, AllHold}
 use Rattle.fixed_interval.specs.declared.faults.Overflow.{Overflow}
-use Rattle.fixed_interval.proofs.Enclosures.{zero_encloses, sum_span_encloses}
+use Rattle.fixed_interval.proofs.Enclosures.{zero_encloses, sum_span_encloses, no_span}
 use Rattle.fixed_interval.proofs.Inclusions.{product_span_encloses, difference_span_encloses}
 
 -- ---- operations
@@ -85,6 +86,12 @@ after_first (Some s) t ts = refl
 pub missing : (o : Option Interval) (x e : Overflow) → Err x ≡ ok_or o e → o ≡ None
 missing None x e h = refl
 missing (Some s) x e h = absurd (cc)
+
+-- the span of one number in range is there
+pub never_fails : (x y : ℚ) (r : Result Interval Overflow) (e f : Overflow) → r ≡ ok_or (outward x x) e → r ≡ Err f → x ≡ y → IsInRange y → ⊥
+never_fails x y r e f h g s range =
+    let x_in : IsInRange x = subst IsInRange (sym s) range in
+    no_span x x (missing (outward x x) f e (sym g ∙ h)) x_in x_in
 
 pub there : (o : Option Interval) (s : Interval) (e : Overflow) → Ok s ≡ ok_or o e → o ≡ Some s
 there None s e h = absurd (cc)
