@@ -1,5 +1,5 @@
 -- The spans' exact numbers are those of the law: means and covariances of exact readings.
-use Rattle.std.specs.Prelude.{◌≡◌, ℕ, zero, suc, ◌+◌, ◌-◌, ◌*◌, ◌^◌, ◌<◌, ◌≤◌, false, ℤ, pos, ◌+ℤ◌, ◌-ℤ◌, ◌*ℤ◌, neg_ℤ, [], ◌∷◌, length, None, refl}
+use Rattle.std.specs.Prelude.{◌≡◌, ℕ, ◌+◌, ◌-◌, ◌*◌, ◌^◌, ◌<◌, ◌≤◌, false, ℤ, pos, ◌+ℤ◌, ◌-ℤ◌, ◌*ℤ◌, neg_ℤ, [], ◌∷◌, length, None, refl}
 use Rattle.std.proofs.Common.{sym, ◌∙◌, ap, ap₂, arith}
 use Rattle.std.proofs.Math.Dec.{lit≤}
 use Rattle.std.proofs.Math.Nat.{one-le-pow}
@@ -10,10 +10,12 @@ use Rattle.exact_fraction.specs.NumberLaws.{*ℚ-inv, of_ℤ-+, of_ℤ-*, of_ℤ
 use Rattle.exact_fraction.specs.Ratio.{fraction_of_ratio}
 use Rattle.exact_fraction.specs.declared.ratio.Ratio.{Ratio}
 use Rattle.exact_fraction.specs.Sums.{total, below}
-use Rattle.exact_fraction.proofs.Quotients.{number_of-parts, *ℚ_cancel}
-use Rattle.exact_fraction.proofs.SumLaws.{total-times_right}
+use Rattle.exact_fraction.proofs.Quotients.{positive_not_zero, number_of-parts, *ℚ_cancel}
+use Rattle.exact_fraction.proofs.Signs.{of_pos-*}
+use Rattle.exact_fraction.proofs.SumLaws.{total-times_right, below_same}
 use Rattle.exact_fraction.proofs.Ring.{Whole, ◌:-◌, ◌:*◌, x0, x1, x2, x3, x4, x5, ring}
 use Rattle.exact_law.specs.Law.{mean, joint}
+use Rattle.exact_law.proofs.JointMeans.{divisor_is}
 use Rattle.decimal18.specs.Bound.{Bound, scaled, fraction_of, value_of}
 use Rattle.decimal18.proofs.Values.{value-shifted}
 use Rattle.fixed_interval.specs.Rules.{ratio_at}
@@ -21,8 +23,6 @@ use Rattle.type_a.specs.Tables.{Table, width_of, finest, reading_at, coefficient
 use Rattle.type_a.specs.Sums.{coefficient_in, sum_of, sum_of_products}
 use Rattle.type_a.specs.Statistics.{exact_reading, exact_mean, exact_joint}
 use Rattle.type_a.proofs.Accepted.{places_at}
-use Rattle.type_a.proofs.Within.{not_zero}
-use Rattle.type_a.proofs.Spread.{of_product, divisor_is}
 
 power : ℕ → ℚ
 power p = of_ℤ (pos (10 ^ p))
@@ -45,22 +45,17 @@ exact_by_coefficient : (t : Table) → refusal t ≡ None → (column : ℕ) →
 exact_by_coefficient t h column k row l = value_by_coefficient (finest t) (reading_at t row column) (places_at t h row column l k)
 
 -- ---- sums
-same_below : (f g : ℕ → ℚ) (n : ℕ) → ((i : ℕ) → i < n → f i ≡ g i) → total f (below n) ≡ total g (below n)
-unfolding total below
-same_below f g zero h = refl
-same_below f g (suc n) h = ap₂ ◌+ℚ◌ (h n (omega arith)) (same_below f g n (λ i l. h i (omega (arith, l))))
-
 exact_sum : (t : Table) → refusal t ≡ None → (column : ℕ) → column < width_of t
     → total (exact_reading t column) (below (length t)) ≡ sum_of t column (length t) *ℚ inverse (finest t)
 exact_sum t h column k =
-    same_below _ (λ row. of_ℤ (coefficient_in t column row) *ℚ inverse (finest t)) (length t) (exact_by_coefficient t h column k)
+    below_same _ (λ row. of_ℤ (coefficient_in t column row) *ℚ inverse (finest t)) (length t) (exact_by_coefficient t h column k)
     ∙ total-times_right (λ row. of_ℤ (coefficient_in t column row)) (inverse (finest t)) (below (length t))
 
 exact_sum_of_products : (t : Table) → refusal t ≡ None → (a b : ℕ) → a < width_of t → b < width_of t
     → total (λ row. exact_reading t a row *ℚ exact_reading t b row) (below (length t))
     ≡ sum_of_products t a b (length t) *ℚ (inverse (finest t) *ℚ inverse (finest t))
 exact_sum_of_products t h a b k m =
-    same_below _ (λ row. (of_ℤ (coefficient_in t a row) *ℚ of_ℤ (coefficient_in t b row)) *ℚ (inverse (finest t) *ℚ inverse (finest t))) (length t)
+    below_same _ (λ row. (of_ℤ (coefficient_in t a row) *ℚ of_ℤ (coefficient_in t b row)) *ℚ (inverse (finest t) *ℚ inverse (finest t))) (length t)
     (λ row l. ap₂ ◌*ℚ◌ (exact_by_coefficient t h a k row l) (exact_by_coefficient t h b m row l)
     ∙ ring (of_ℤ (coefficient_in t a row) ∷ of_ℤ (coefficient_in t b row) ∷ inverse (finest t) ∷ []) ((x0 :* x2) :* (x1 :* x2)) ((x0 :* x1) :* (x2 :* x2)) refl)
     ∙ total-times_right (λ row. of_ℤ (coefficient_in t a row) *ℚ of_ℤ (coefficient_in t b row)) (inverse (finest t) *ℚ inverse (finest t)) (below (length t))
@@ -83,13 +78,13 @@ mean_is t h column k q sum n p e f g i s =
 -- 10^(2p) is the square of 10^p
 power_not_zero : (p : ℕ) → is_zero_ℚ (power p) ≡ false
 unfolding power
-power_not_zero p = not_zero (10 ^ p) (one-le-pow p 10 (lit≤ tt))
+power_not_zero p = positive_not_zero (10 ^ p) (one-le-pow p 10 (lit≤ tt))
 
 square_of_power : (p : ℕ) → power (2 * p) ≡ power p *ℚ power p
 unfolding power
 square_of_power p =
     let e : 2 * p ≡ p + p = omega arith in
-    ap (λ n. of_ℤ (pos n)) (ap (λ k. 10 ^ k) e ∙ pow-add 10 p p) ∙ of_product (10 ^ p) (10 ^ p)
+    ap (λ n. of_ℤ (pos n)) (ap (λ k. 10 ^ k) e ∙ pow-add 10 p p) ∙ of_pos-* (10 ^ p) (10 ^ p)
 
 square_of_inverse : (p : ℕ) → inverse (2 * p) ≡ inverse p *ℚ inverse p
 unfolding inverse

@@ -1,8 +1,7 @@
--- The mean and the covariance of the means are in the range of bounds, so that their spans are there.
-use Rattle.std.specs.Prelude.{◌≡◌, ℕ, zero, suc, ◌-◌, ◌*◌, ◌^◌, ◌<◌, ◌≤◌, false, Option, Some, None, Result, Err, ℤ, pos, negsuc, ◌*ℤ◌, neg_ℤ, ◌≤ℤ◌, unsigned_abs, length, refl}
+-- The mean and the covariance of the means are in the range of bounds.
+use Rattle.std.specs.Prelude.{◌≡◌, ℕ, zero, suc, ◌-◌, ◌*◌, ◌^◌, ◌<◌, ◌≤◌, false, None, ℤ, pos, negsuc, ◌*ℤ◌, neg_ℤ, ◌≤ℤ◌, unsigned_abs, length, refl}
 use std.Quotient.{/_rec, /_rec₂}
-use Rattle.std.specs.Option.{ok_or}
-use Rattle.std.proofs.Common.{sym, ◌∙◌, subst, arith}
+use Rattle.std.proofs.Common.{subst, arith}
 use Rattle.std.proofs.Math.Dec.{lit≤, lit<}
 use Rattle.std.proofs.Math.Nat.{one-le-pow, le_trans}
 use Rattle.std.proofs.Math.Pow.{pow-add}
@@ -10,21 +9,17 @@ use Rattle.std.proofs.lemmas.Int.{ints}
 use Rattle.exact_fraction.specs.Fraction.{Fraction, ◌⊗◌, negated, is_at_most}
 use Rattle.exact_fraction.specs.Number.{ℚ, number_of, of_ℤ, ◌*ℚ◌, neg_ℚ, ◌≤ℚ◌, is_at_most_ℚ}
 use Rattle.exact_fraction.specs.NumberLaws.{≤ℚ_trans, *ℚ_comm, ≤ℚ-of_≼}
+use Rattle.exact_fraction.proofs.Quotients.{positive_not_zero}
 use Rattle.exact_fraction.proofs.Signs.{whole-not_negative}
+use Rattle.exact_fraction.proofs.Within.{Within, within_quotient, within_as, within_total}
 use Rattle.exact_law.specs.Law.{mean}
+use Rattle.exact_law.proofs.JointMeans.{within_joint}
 use Rattle.decimal18.specs.Bound.{Bound, fraction_of, value_of}
-use Rattle.decimal18.specs.Down.{IsInRange, top, down, up}
-use Rattle.decimal18.proofs.Rounding.{down_none}
-use Rattle.decimal18.proofs.Upward.{up_none}
-use Rattle.fixed_interval.specs.Interval.{Interval, from_ends, outward}
-use Rattle.fixed_interval.specs.declared.faults.Overflow.{Overflow}
-use Rattle.fixed_interval.proofs.Sums.{missing}
+use Rattle.decimal18.specs.Down.{IsInRange, top}
 use Rattle.type_a.specs.Tables.{Table, width_of, finest, reading_at, is_wide, refusal}
 use Rattle.type_a.specs.Statistics.{exact_reading, exact_mean, exact_joint}
 use Rattle.type_a.proofs.Sizes.{great_not, small_coefficient, size_of_coefficient}
 use Rattle.type_a.proofs.Accepted.{narrow_at, at_least_two}
-use Rattle.type_a.proofs.Within.{Within, within_quotient, within_as, within_total, not_zero}
-use Rattle.type_a.proofs.Spread.{within_joint}
 
 -- ---- a reading
 -- the greatest magnitude of a reading: 10^9 less 10^-6
@@ -95,23 +90,10 @@ unfolding mean
 mean_in_range t h column k =
     let n = length t in
     within_range _ most most_low most_high
-    (within_quotient _ most (of_ℤ (pos n)) (whole-not_negative n) (not_zero n (le_trans (lit≤ tt) (at_least_two t h)))
+    (within_quotient _ most (of_ℤ (pos n)) (whole-not_negative n) (positive_not_zero n (le_trans (lit≤ tt) (at_least_two t h)))
     (within_as _ (of_ℤ (pos n) *ℚ most) _ (*ℚ_comm (of_ℤ (pos n)) most) (within_total (exact_reading t column) most n (reading_within t h column k))))
 
 pub joint_in_range : (t : Table) → refusal t ≡ None → (a b : ℕ) → a < width_of t → b < width_of t → IsInRange (exact_joint t a b)
 joint_in_range t h a b k m =
     within_range _ (most *ℚ most) square_low square_high
     (within_joint (exact_reading t a) (exact_reading t b) most (length t) (at_least_two t h) (reading_within t h a k) (reading_within t h b m))
-
--- ---- so the rounding outwards never fails
-no_ends : (lo hi : Option Bound) → from_ends lo hi ≡ None → (lo ≡ None → ⊥) → (hi ≡ None → ⊥) → ⊥
-no_ends None hi e f g = f refl
-no_ends (Some lo) None e f g = g refl
-no_ends (Some lo) (Some hi) e f g = cc e
-
-no_span : (x : ℚ) → IsInRange x → outward x x ≡ None → ⊥
-unfolding outward
-no_span x h e = no_ends (down x) (up x) e (λ n. down_none x n h) (λ n. up_none x n h)
-
-pub never_fails : (x y : ℚ) (r : Result Interval Overflow) (e f : Overflow) → r ≡ ok_or (outward x x) e → r ≡ Err f → x ≡ y → IsInRange y → ⊥
-never_fails x y r e f h g s range = no_span x (subst IsInRange (sym s) range) (missing (outward x x) f e (sym g ∙ h))

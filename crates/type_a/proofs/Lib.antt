@@ -2,7 +2,5 @@ pub mod Sizes
 pub mod Accepted
 pub mod Refusals
 pub mod SumSteps
-pub mod Within
-pub mod Spread
 pub mod Exact
 pub mod InRange

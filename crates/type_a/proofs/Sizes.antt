@@ -1,11 +1,12 @@
 -- Readings that are too wide, by their size and by their power of ten; and those that are not.
-use Rattle.std.specs.Prelude.{◌≡◌, ℕ, zero, suc, ◌+◌, ◌-◌, ◌*◌, ◌^◌, ◌<◌, ◌≤◌, Bool, true, false, ◌||◌, nat_le, nat_lt, ℤ, pos, ◌*ℤ◌, unsigned_abs, refl}
+use Rattle.std.specs.Prelude.{◌≡◌, ℕ, zero, suc, ◌+◌, ◌-◌, ◌*◌, ◌^◌, ◌<◌, ◌≤◌, false, nat_le, nat_lt, ℤ, pos, ◌*ℤ◌, unsigned_abs, refl}
 use Rattle.std.proofs.Common.{sym, ◌∙◌, ap, subst, arith, mul-le-mul_right}
 use Rattle.std.proofs.Math.IntN.{zero-*ℤ}
 use Rattle.std.proofs.Math.Nat.{le_of_mul-le-mul_right, pow-le-pow_right, one-le-pow}
 use Rattle.std.proofs.Math.Pow.{pow-add}
 use Rattle.std.proofs.Math.Dec.{lit≤}
-use Rattle.std.proofs.lemmas.Bool.{le-leb, leb-true, true≢false}
+use Rattle.std.proofs.lemmas.Bool.{le-leb, leb-true, or_parts}
+use Rattle.std.specs.Cmp.{both_ways}
 use Rattle.std.proofs.lemmas.Bool.Decides.{nat_tests}
 use Rattle.std.proofs.lemmas.Int.{ints, unsigned_abs-mul}
 use Rattle.type_a.specs.Tables.{coefficient_at, is_wide}
@@ -32,12 +33,7 @@ past_limit_far (suc n) exponent far =
 
 -- and for a lower power it is past the limit from the limit's quotient on
 same_test : (a b c d : ℕ) → (a ≤ b → c ≤ d) → (c ≤ d → a ≤ b) → nat_le a b ≡ nat_le c d
-same_test a b c d f g = by (nat_le a b) (nat_le c d) refl refl where
-  by : (s t : Bool) → nat_le a b ≡ s → nat_le c d ≡ t → s ≡ t
-  by true true h k = refl
-  by false false h k = refl
-  by true false h k = absurd (true≢false (sym (le-leb c d (f (leb-true a b h))) ∙ k))
-  by false true h k = absurd (true≢false (sym (le-leb a b (g (leb-true c d k))) ∙ h))
+same_test a b c d f g = both_ways _ _ (λ h. le-leb c d (f (leb-true a b h))) (λ h. le-leb a b (g (leb-true c d h)))
 
 pub past_limit_near : (size exponent : ℕ) → exponent ≤ 15 → nat_le (10 ^ (15 - exponent)) size ≡ nat_le (10 ^ 15) (size * 10 ^ exponent)
 past_limit_near size exponent near =
@@ -52,19 +48,15 @@ past_limit_near size exponent near =
 pub size_of_coefficient : (p : ℕ) (b : Bound) → unsigned_abs (coefficient_at p b) ≡ unsigned_abs b.coefficient * 10 ^ (p - b.places)
 size_of_coefficient p b = unsigned_abs-mul b.coefficient (pos (10 ^ (p - b.places)))
 
-neither : (a b : Bool) → (a || b) ≡ false → (a ≡ false) × (b ≡ false)
-neither true b h = absurd (true≢false h)
-neither false b h = (refl, h)
-
 pub great_not : (p : ℕ) (b : Bound) → is_wide p b ≡ false → unsigned_abs b.coefficient < 10 ^ (9 + b.places)
 great_not p b h =
-    let parts = neither (nat_le (10 ^ (9 + b.places)) (unsigned_abs b.coefficient)) (nat_le (10 ^ 15) (unsigned_abs (coefficient_at p b))) h in
+    let parts = or_parts (nat_le (10 ^ (9 + b.places)) (unsigned_abs b.coefficient)) (nat_le (10 ^ 15) (unsigned_abs (coefficient_at p b))) h in
     let test : nat_le (10 ^ (9 + b.places)) (unsigned_abs b.coefficient) ≡ false = parts.0 in
     grind (arith, nat_tests)
 
 pub small_coefficient : (p : ℕ) (b : Bound) → is_wide p b ≡ false → unsigned_abs (coefficient_at p b) < 10 ^ 15
 small_coefficient p b h =
-    let parts = neither (nat_le (10 ^ (9 + b.places)) (unsigned_abs b.coefficient)) (nat_le (10 ^ 15) (unsigned_abs (coefficient_at p b))) h in
+    let parts = or_parts (nat_le (10 ^ (9 + b.places)) (unsigned_abs b.coefficient)) (nat_le (10 ^ 15) (unsigned_abs (coefficient_at p b))) h in
     let test : nat_le (10 ^ 15) (unsigned_abs (coefficient_at p b)) ≡ false = parts.1 in
     grind (arith, nat_tests)
 

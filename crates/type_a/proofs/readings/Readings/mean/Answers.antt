@@ -1,7 +1,8 @@
 use Rattle.std.proofs.Common.{rules}
 use Rattle.type_a.specs.Tables.{table_of}
 use Rattle.type_a.specs.Statistics.{exact_mean}
-use Rattle.type_a.proofs.InRange.{mean_in_range, never_fails}
+use Rattle.fixed_interval.proofs.Sums.{never_fails}
+use Rattle.type_a.proofs.InRange.{mean_in_range}
 use Rattle.type_a.proofs.readings.Readings.mean.Goals as goal
 
 pub unreachable-requires : goal.unreachable-requires
