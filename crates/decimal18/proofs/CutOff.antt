@@ -2,19 +2,19 @@
 use Rattle.std.specs.Prelude.{◌≡◌, ◌↔◌, ◌⊎◌, ℕ, zero, suc, ◌+◌, ◌-◌, ◌*◌, ◌^◌, ◌<◌, ◌≤◌, Bool, true, false, ℤ, pos, negsuc, ◌*ℤ◌, ◌≤ℤ◌, neg_ℤ, unsigned_abs, Option, None, Some, IsSome, IfSome, refl}
 use Rattle.std.specs.Option.{option_map}
 use Rattle.std.proofs.Common.{sym, ap, subst, ◌∙◌, arith, inl, inr, add-one, add-zero}
-use Rattle.std.proofs.Math.Nat.{one-le-pow, mul-le-mul_right, pow-suc}
+use Rattle.std.proofs.Math.Nat.{one-le-pow, mul-le-mul_right}
 use Rattle.std.proofs.Math.Dec.{lit≤}
 use Rattle.std.proofs.Math.Pow.{pow-add}
 use Rattle.std.proofs.Math.IntN.{*ℤ_comm}
 use Rattle.std.proofs.lemmas.Int.{ints, by_lt_z}
 use Rattle.std.proofs.lemmas.Bool.{true≢false, false≢true, cases_lt, lt-ltb, le-ltb}
 use lib.Signed.{≤ℤ_refl}
-use Rattle.exact_fraction.specs.Whole.{le_both, le_same, le_cancel, diff_of, diff_same, push}
+use Rattle.exact_fraction.specs.Whole.{le_both, le_same, le_cancel}
 use Rattle.exact_fraction.specs.Number.{ℚ, of_ℤ, ◌≤ℚ◌, neg_ℚ}
 use Rattle.exact_fraction.specs.NumberLaws.{≤ℚ_refl, ≤ℚ_trans, ≤ℚ_antisym, ≤ℚ_same, ≤ℚ_total, neg_ℚ-≤ℚ, ≼-of_≤ℚ, ≤ℤ-of_≤ℚ}
 use Rattle.decimal18.specs.declared.direction.Direction.{Direction}
 use Rattle.decimal18.specs.declared.direction.Direction.TheVariants.{Down, Up}
-use Rattle.decimal18.specs.Bound.{Bound, scaled, fraction_of, value_of, canonical, IsBound, IsCanonical}
+use Rattle.decimal18.specs.Bound.{Bound, scaled, fraction_of, value_of, canonical, IsBound}
 use Rattle.decimal18.specs.Down.{IsDown, IsInRange, top, down, up, floor_at, fits_18_digits, negated}
 use Rattle.decimal18.specs.Digits.{signed, signed_ℚ, rounded, growth, IsCutOff, IsEnough, IsFirst, IsPast}
 use Rattle.decimal18.proofs.Values.{value-shifted, value-rises, value-whole, under_floor, under_value}

@@ -1,15 +1,13 @@
 -- When a decimal number is a bound, by its digits and its power of ten.
-use Rattle.std.specs.Prelude.{◌≡◌, ◌≢◌, ℕ, zero, suc, ◌+◌, ◌-◌, ◌*◌, ◌%◌, ◌^◌, ◌<◌, ◌≤◌, ◌⊎◌, ◌↔◌, Bool, true, false, cond, ℤ, pos, ◌*ℤ◌, unsigned_abs, Option, None, Some, IsSome, IfSome, refl}
+use Rattle.std.specs.Prelude.{◌≡◌, ◌≢◌, ℕ, ◌+◌, ◌-◌, ◌*◌, ◌%◌, ◌^◌, ◌<◌, ◌≤◌, ◌⊎◌, ◌↔◌, Bool, true, false, cond, ℤ, pos, ◌*ℤ◌, unsigned_abs, Option, None, Some, IsSome, IfSome, refl}
 use Rattle.std.proofs.Common.{sym, ap, subst, ◌∙◌, arith, rules, inl, inr}
-use Rattle.std.proofs.Math.Dec.{lit≤}
-use Rattle.std.proofs.Math.Nat.{le-mul_of_pos_right, one-le-pow, pow-suc, eq_of_mul-eq-mul_right}
+use Rattle.std.proofs.Math.Nat.{le-mul_of_pos_right, pow-suc, eq_of_mul-eq-mul_right}
 use Rattle.std.proofs.Math.Pow.{pow-add}
 use Rattle.std.proofs.lemmas.Bool.{cases_lt}
 use Rattle.std.proofs.lemmas.Bool.Decides.{nat_tests}
 use Rattle.std.proofs.lemmas.Int.{unsigned_abs-mul}
 use std.Quotient.{eq/}
 use Rattle.exact_fraction.specs.Whole.{diff_same, push}
-use Rattle.exact_fraction.specs.NumberLaws.{≈-of_≡}
 use Rattle.decimal18.specs.Bound.{Bound, scaled, fraction_of, value_of, canonical, IsBound}
 use Rattle.decimal18.specs.Digits.{signed}
 use Rattle.decimal18.specs.Literal.{is_bound, as_bound}

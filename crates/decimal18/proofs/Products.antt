@@ -1,12 +1,12 @@
 -- Products and negatives of decimal numbers.
-use Rattle.std.specs.Prelude.{◌≡◌, ℕ, ◌+◌, ◌*◌, ◌^◌, Bool, true, false, ℤ, pos, ◌*ℤ◌, neg_ℤ, refl}
+use Rattle.std.specs.Prelude.{◌≡◌, ℕ, ◌+◌, ◌*◌, Bool, true, false, ℤ, pos, ◌*ℤ◌, refl}
 use Rattle.std.proofs.Common.{sym, ap, ◌∙◌, arith}
 use Rattle.std.proofs.Math.Pow.{pow-add}
 use std.Quotient.{eq/, /_rec, /_rec₂}
 use Rattle.exact_fraction.specs.Whole.{diff_same, push}
 use Rattle.exact_fraction.specs.Fraction.{◌⊗◌}
-use Rattle.exact_fraction.specs.Number.{ℚ, ◌*ℚ◌}
-use Rattle.decimal18.specs.Bound.{Bound, scaled, fraction_of, value_of}
+use Rattle.exact_fraction.specs.Number.{◌*ℚ◌}
+use Rattle.decimal18.specs.Bound.{scaled, fraction_of, value_of}
 use Rattle.decimal18.specs.Digits.{signed, signed_ℚ, differ}
 use Rattle.decimal18.proofs.CutOff.{value-signed}
 

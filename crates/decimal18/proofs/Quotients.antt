@@ -1,7 +1,7 @@
 -- Quotients: the digits of a long division are those of the exact quotient.
-use Rattle.std.specs.Prelude.{◌≡◌, ◌≢◌, ◌↔◌, ◌⊎◌, ℕ, zero, suc, ◌+◌, ◌-◌, ◌*◌, ◌/◌, ◌^◌, ◌<◌, ◌≤◌, Bool, true, false, ℤ, pos, negsuc, ◌*ℤ◌, ◌≤ℤ◌, neg_ℤ, unsigned_abs, refl}
-use Rattle.std.proofs.Common.{sym, ap, subst, ◌∙◌, arith, inl, inr, suc-le-suc, zero-le}
-use Rattle.std.proofs.Math.Nat.{mul-pos, one-le-pow, mul-le-mul_right, mul-lt-mul_of_pos_right, div-mul-le_self, lt-div-mul-add, eq_of_mul-eq-mul_right}
+use Rattle.std.specs.Prelude.{◌≡◌, ◌≢◌, ℕ, zero, suc, ◌+◌, ◌-◌, ◌*◌, ◌/◌, ◌^◌, ◌<◌, ◌≤◌, Bool, true, false, ℤ, pos, negsuc, ◌*ℤ◌, ◌≤ℤ◌, neg_ℤ, unsigned_abs, refl}
+use Rattle.std.proofs.Common.{sym, ap, subst, ◌∙◌, arith}
+use Rattle.std.proofs.Math.Nat.{mul-pos, one-le-pow, mul-le-mul_right, mul-lt-mul_of_pos_right, div-mul-le_self, lt-div-mul-add}
 use Rattle.std.proofs.Math.Dec.{lit≤}
 use Rattle.std.proofs.Math.Pow.{pow-add}
 use Rattle.std.proofs.lemmas.Int.{ints}
@@ -11,11 +11,11 @@ use Rattle.exact_fraction.specs.Whole.{diff_same, push, le_both}
 use Rattle.exact_fraction.specs.Fraction as fraction
 use Rattle.exact_fraction.specs.Fraction.{Fraction, ◌⊗◌, inverse}
 use Rattle.exact_fraction.specs.Number.{ℚ, number_of, of_ℤ, ◌≤ℚ◌, ◌*ℚ◌, ◌/ℚ◌, inv_ℚ, neg_ℚ}
-use Rattle.exact_fraction.specs.NumberLaws.{≈-of_≡, ≤ℚ-of_≼, ≼-of_≤ℚ, ≤ℤ-of_≤ℚ, ≤ℚ_trans, ≤ℚ_same}
+use Rattle.exact_fraction.specs.NumberLaws.{≈-of_≡, ≤ℚ-of_≼, ≼-of_≤ℚ, ≤ℤ-of_≤ℚ, ≤ℚ_trans}
 use Rattle.decimal18.specs.Bound.{Bound, scaled, fraction_of, value_of}
-use Rattle.decimal18.specs.Down.{IsInRange, top, floor_at}
+use Rattle.decimal18.specs.Down.{IsInRange, floor_at}
 use Rattle.decimal18.specs.Digits.{signed, signed_ℚ, differ, IsCutOff, IsPart}
-use Rattle.decimal18.proofs.Values.{value-shifted, value-whole, under_floor, under_value}
+use Rattle.decimal18.proofs.Values.{under_floor, under_value}
 use Rattle.decimal18.proofs.CutOff.{below_quotient, pos_same, le_pos}
 
 -- m * 10 ^ u divided by n * 10 ^ v

@@ -1,5 +1,5 @@
 -- Sums of decimal numbers.
-use Rattle.std.specs.Prelude.{◌≡◌, ◌≢◌, ◌↔◌, ◌⊎◌, ℕ, zero, suc, ◌+◌, ◌-◌, ◌*◌, ◌/◌, ◌%◌, ◌^◌, ◌<◌, ◌≤◌, Bool, true, false, ℤ, pos, negsuc, ◌+ℤ◌, ◌*ℤ◌, neg_ℤ, unsigned_abs, Some, refl}
+use Rattle.std.specs.Prelude.{◌≡◌, ◌↔◌, ◌⊎◌, ℕ, suc, ◌+◌, ◌-◌, ◌*◌, ◌/◌, ◌^◌, ◌<◌, ◌≤◌, Bool, true, false, ℤ, pos, negsuc, ◌+ℤ◌, ◌*ℤ◌, unsigned_abs, refl}
 use Rattle.std.proofs.Common.{sym, ap, subst, ◌∙◌, arith, inl, inr}
 use Rattle.std.proofs.Math.Nat.{mul-le-mul_right, div-le_self}
 use Rattle.std.proofs.lemmas.Bool.{cases_lt, true≢false}
@@ -8,9 +8,9 @@ use Rattle.std.proofs.Math.Pow.{pow-add}
 use std.Quotient.{eq/, /_rec, /_rec₂}
 use Rattle.exact_fraction.specs.Whole.{diff_of, diff_same, push}
 use Rattle.exact_fraction.specs.Fraction.{◌⊕◌}
-use Rattle.exact_fraction.specs.Number.{ℚ, ◌+ℚ◌}
-use Rattle.decimal18.specs.Bound.{Bound, scaled, fraction_of, value_of, IsBound, IsCanonical}
-use Rattle.decimal18.specs.Digits.{signed, signed_ℚ, differ, joined, IsCutOff, IsEnough, IsPart}
+use Rattle.exact_fraction.specs.Number.{◌+ℚ◌}
+use Rattle.decimal18.specs.Bound.{scaled, fraction_of, value_of}
+use Rattle.decimal18.specs.Digits.{signed, signed_ℚ, differ, joined, IsCutOff, IsPart}
 use Rattle.decimal18.proofs.Values.{value-shifted}
 use Rattle.decimal18.proofs.Zeros.{signed_times}
 use Rattle.decimal18.proofs.Counting.{powers_rise}

@@ -1,14 +1,13 @@
 -- Zeros at the end of the digits after the point: taking them away by halving steps, and that the
 -- canonical form has none.
-use Rattle.std.specs.Prelude.{◌≡◌, ◌≢◌, ℕ, zero, suc, ◌+◌, ◌-◌, ◌*◌, ◌/◌, ◌%◌, ◌^◌, ◌<◌, ◌≤◌, Bool, true, false, ℤ, pos, negsuc, ◌*ℤ◌, neg_ℤ, unsigned_abs, refl}
+use Rattle.std.specs.Prelude.{◌≡◌, ◌≢◌, ℕ, zero, suc, ◌+◌, ◌-◌, ◌*◌, ◌/◌, ◌%◌, ◌^◌, ◌<◌, ◌≤◌, Bool, true, false, pos, ◌*ℤ◌, unsigned_abs, refl}
 use Rattle.std.proofs.Common.{sym, ap, subst, ◌∙◌, arith, add-zero}
 use Rattle.std.proofs.lemmas.Nat.{mod-mul-add}
-use Rattle.std.proofs.lemmas.Bool.{false≢true}
 use Rattle.std.proofs.Math.Nat.{one-le-pow, mul-pos}
 use Rattle.std.proofs.Math.Dec.{lit≤}
 use Rattle.std.proofs.Math.Pow.{pow-add}
 use Rattle.exact_fraction.specs.Whole.{diff_same, push}
-use Rattle.decimal18.specs.Bound.{Bound, scaled, value_of, canonical, IsBound, IsCanonical}
+use Rattle.decimal18.specs.Bound.{scaled, value_of, canonical, IsBound, IsCanonical}
 use Rattle.decimal18.specs.Digits.{signed, IsWithoutZeros, HasFewZeros}
 use Rattle.decimal18.proofs.Values.{value-shifted}
 use Rattle.decimal18.proofs.Canonical.{IsReduced-canonical, one_canonical}

@@ -1,5 +1,5 @@
 -- Decimal numbers of at most 18 digits.
-use Rattle.std.specs.Prelude.{◌≡◌, ◌≢◌, ℕ, zero, suc, ◌%◌, ◌^◌, ◌<◌, ◌≤◌, ◌==◌, if◌then◌else◌, ℤ, pos, unsigned_abs, int_div}
+use Rattle.std.specs.Prelude.{◌≢◌, ℕ, zero, suc, ◌%◌, ◌^◌, ◌<◌, ◌≤◌, ◌==◌, if◌then◌else◌, ℤ, pos, unsigned_abs, int_div}
 use Rattle.std.proofs.Math.Dec.{lit≤}
 use Rattle.std.proofs.Math.Nat.{one-le-pow}
 use std.Quotient.{cls}

@@ -3,6 +3,7 @@ use Rattle.std.specs.Prelude.{◌≡◌, ◌≢◌, ℕ, ◌+◌, ◌*◌, ◌^�
 use Rattle.std.specs.List.{list_all, prefix_len}
 use Rattle.std.specs.Char.{is_ascii_digit}
 use Rattle.std.specs.Str.Parse.{digits_value}
+use Rattle.line_text.specs.Characters.{plus_sign, minus_sign, point, small_e, capital_e}
 use Rattle.exact_fraction.specs.Number.{ℚ}
 use Rattle.decimal18.specs.Digits.{signed}
 use Rattle.decimal18.specs.Bound.{Bound, scaled, value_of, canonical, IsBound}
@@ -55,7 +56,7 @@ are_digits text = list_all is_ascii_digit text
 
 -- `e` or `E`
 abbrev pub is_exponent_letter : ℕ → Bool
-is_exponent_letter byte = byte == 101 || byte == 69
+is_exponent_letter byte = byte == small_e || byte == capital_e
 
 -- one to three digits
 abbrev pub are_exponent_digits : List ℕ → Bool
@@ -120,23 +121,23 @@ after_digits text = drop (prefix_len is_ascii_digit text) text
 -- the sign at the start
 abbrev pub leading_sign : List ℕ → Sign
 leading_sign [] = Unsigned
-leading_sign (byte ∷ bytes) = if byte == 43 then Plus else if byte == 45 then Minus else Unsigned
+leading_sign (byte ∷ bytes) = if byte == plus_sign then Plus else if byte == minus_sign then Minus else Unsigned
 
 -- what follows the sign at the start
 abbrev pub after_sign : List ℕ → List ℕ
 after_sign [] = []
-after_sign (byte ∷ bytes) = if byte == 43 then bytes else if byte == 45 then bytes else byte ∷ bytes
+after_sign (byte ∷ bytes) = if byte == plus_sign then bytes else if byte == minus_sign then bytes else byte ∷ bytes
 
 -- the digits after a point at the start
 abbrev pub leading_point : List ℕ → List ℕ
 leading_point [] = []
-leading_point (byte ∷ bytes) = if byte == 46 then leading_digits bytes else []
+leading_point (byte ∷ bytes) = if byte == point then leading_digits bytes else []
 
 -- what follows the digits after a point; a point without a digit is not passed
 abbrev pub after_leading_point : List ℕ → List ℕ
 after_leading_point [] = []
 after_leading_point (byte ∷ bytes) =
-    if byte == 46 && nat_lt 0 (prefix_len is_ascii_digit bytes) then after_digits bytes else byte ∷ bytes
+    if byte == point && nat_lt 0 (prefix_len is_ascii_digit bytes) then after_digits bytes else byte ∷ bytes
 
 -- the exponent that the whole text is, where it is empty or one
 abbrev pub exponent_of : List ℕ → Option (Option Exponent)

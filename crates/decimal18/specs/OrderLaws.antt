@@ -1,14 +1,14 @@
 -- Lemmas on the order: it is total, and its answers are those of the values.
-use Rattle.std.specs.Prelude.{◌≡◌, ◌⊎◌, ◌==◌, ◌&&◌, Bool, true, false, ℤ, cond, if◌then◌else◌, refl}
+use Rattle.std.specs.Prelude.{◌≡◌, ◌==◌, ◌&&◌, Bool, true, false, if◌then◌else◌, refl}
 use Rattle.std.proofs.Common.{sym, ap, subst, ◌∙◌, inl, inr}
 use Rattle.std.proofs.lemmas.Bool.{true≢false, and_parts, eqb-true}
 use Rattle.std.proofs.lemmas.Cmp.{tied_itself}
 use Rattle.std.specs.declared.cmp.Ordering.{Ordering}
 use Rattle.std.specs.declared.cmp.Ordering.TheVariants.{Less, Equal, Greater}
 use Rattle.std.specs.Cmp.{IsTotalOrder, then_total, on_total, int_cmp_total, nat_cmp_total, both_tied, unsigned_ties, signed_Decides}
-use Rattle.std.specs.Ordering.{nat_cmp, int_cmp, int_eq, on, then_cmp, ordering_then, ordering_reverse, is_le, is_lt, is_eq, eq_of_both}
+use Rattle.std.specs.Ordering.{nat_cmp, int_cmp, int_eq, ordering_then, ordering_reverse, is_le, is_eq}
 use Rattle.exact_fraction.specs.Number.{ℚ, ◌≤ℚ◌, is_at_most_ℚ}
-use Rattle.exact_fraction.specs.NumberLaws.{≤ℚ_refl, ≤ℚ_trans, ≤ℚ_antisym, ≤ℚ_same, ≤ℚ_total}
+use Rattle.exact_fraction.specs.NumberLaws.{≤ℚ_trans, ≤ℚ_antisym, ≤ℚ_same, ≤ℚ_total}
 use Rattle.exact_fraction.specs.Ratio.{IsOrderOf}
 use Rattle.decimal18.specs.Bound.{Bound, scaled, value_of}
 use Rattle.decimal18.specs.Order.{compare_ℚ, order}

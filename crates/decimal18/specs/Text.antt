@@ -1,11 +1,12 @@
 -- The text of a decimal number.
 use Rattle.std.specs.Prelude.{ℕ, zero, suc, ◌+◌, ◌/◌, ◌%◌, ◌^◌, ℤ, pos, negsuc, unsigned_abs, List, [], ◌∷◌, ◌++◌, codes, decimal}
+use Rattle.line_text.specs.Characters.{digit_zero}
 use Rattle.decimal18.specs.Bound.{Bound}
 
 -- the last p digits of n, with leading zeros where n has fewer
 abbrev pub last_digits : ℕ → ℕ → List ℕ
 last_digits zero n = []
-last_digits (suc p) n = last_digits p (n / 10) ++ (48 + n % 10) ∷ []
+last_digits (suc p) n = last_digits p (n / 10) ++ (digit_zero + n % 10) ∷ []
 
 -- `-` where the number is negative
 abbrev pub sign_of : ℤ → List ℕ

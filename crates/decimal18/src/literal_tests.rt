@@ -105,15 +105,15 @@ fn texts_that_are_no_literals(rt: HostRuntime) {
     assert_eq!(rt; parse(b"1\xff2"), Err(NumFault::NotNumber));
 }
 
-// A leading, so many bytes, and an end.
+// A text: a start, `count` times the byte, and an end.
 fn long(
     rt: &HostRuntime,
-    leading: &str,
+    start: &str,
     byte: u8,
     count: usize,
     end: &str,
 ) -> Result<Vec<u8>, AllocError> {
-    let mut text = Vec::from_slice(rt.alloc(), leading.as_bytes())?;
+    let mut text = Vec::from_slice(rt.alloc(), start.as_bytes())?;
     for _ in 0..count {
         text.push(byte)?;
     }
@@ -126,7 +126,7 @@ const MANY: usize = 1_000_000;
 #[test]
 fn long_texts(rt: HostRuntime) -> Result<(), Fail> {
     let one = Dec::new(1, 0).ok_or("not a bound")?;
-    for (leading, byte, count, end, answer) in [
+    for (start, byte, count, end, answer) in [
         ("", b'0', MANY, "1", Ok(one)),
         ("1.", b'0', MANY, "", Ok(one)),
         ("0.", b'0', 998, "1e999", Ok(one)),
@@ -141,8 +141,8 @@ fn long_texts(rt: HostRuntime) -> Result<(), Fail> {
         ("", b'9', MANY, "x", Err(NumFault::NotNumber)),
         ("", b'-', MANY, "1", Err(NumFault::NotNumber)),
     ] {
-        let text = long(&rt, leading, byte, count, end)?;
-        assert_eq!(rt; parse(text.as_slice()), answer, "at {leading} and {end}");
+        let text = long(&rt, start, byte, count, end)?;
+        assert_eq!(rt; parse(text.as_slice()), answer, "at {start} and {end}");
     }
     Ok(())
 }

@@ -40,7 +40,7 @@ fn push_last_digits(text: &mut Bytes, size: u64, count: u32) -> Result<(), OutOf
     Ok(())
 }
 
-// The digit of which so many stand after, as its character.
+// The digit at this place, counted from the last, as its character.
 fn digit_at(size: u64, place: u32) -> u8
     requires { place ≤ 36 }
     ensures { result ≡ 48 + size / 10 ^ place % 10 }

@@ -4,9 +4,10 @@ use Rattle.std.specs.List.{list_all}
 use Rattle.std.proofs.Common.{sym, ◌∙◌, ap, ap₂, subst, arith, length-append}
 use Rattle.std.proofs.lemmas.List.{append_assoc, append-nil, length-map, map-append}
 use Rattle.std.proofs.lemmas.List.Folds.{list_any-append, list_all-append}
+use Rattle.std.proofs.lemmas.Bool.{and_parts, or_parts, and_from, not-true}
 use Rattle.sheet_rows.specs.Rows.{Row, Given, Formula, Sheet, name_of, used_names}
 use Rattle.sheet_rows.specs.Sheets.{IsWellFormed, row_limit, is_named, is_among, is_quantity_in, are_named_once, are_known, are_earlier, added, rows_with, set_row}
-use Rattle.sheet_rows.proofs.Conditions.{and_left, and_right, and_both, or_left, or_right, not_true, other_way}
+use Rattle.sheet_rows.proofs.Conditions.{other_way}
 use Rattle.sheet_rows.proofs.Verdicts.{named_itself, quantity_is_row, list_all_agree}
 use Rattle.sheet_rows.proofs.Adding.{add_complete}
 use Rattle.sheet_rows.proofs.Setting.{set_complete}
@@ -29,22 +30,21 @@ once_earlier : (a b : List Row) → are_named_once (a ++ b) ≡ true → are_nam
 once_earlier [] b e = refl
 once_earlier (row ∷ a) b e =
     let apart : is_among (a ++ b) (name_of row) ≡ false =
-    not_true (is_among (a ++ b) (name_of row)) (and_left (not (is_among (a ++ b) (name_of row))) (are_named_once (a ++ b)) e) in
-    and_both (not (is_among a (name_of row))) (are_named_once a)
-    (ap not (or_left (is_among a (name_of row)) (is_among b (name_of row)) (sym (is_among-append a b (name_of row)) ∙ apart)))
-    (once_earlier a b (and_right (not (is_among (a ++ b) (name_of row))) (are_named_once (a ++ b)) e))
+    not-true (is_among (a ++ b) (name_of row)) (and_parts (not (is_among (a ++ b) (name_of row))) (are_named_once (a ++ b)) e).0 in
+    and_from (not (is_among a (name_of row))) (are_named_once a)
+    (ap not (or_parts (is_among a (name_of row)) (is_among b (name_of row)) (sym (is_among-append a b (name_of row)) ∙ apart)).0)
+    (once_earlier a b (and_parts (not (is_among (a ++ b) (name_of row))) (are_named_once (a ++ b)) e).1)
 
 -- no earlier row has the name of a later one
 once_new : (a : List Row) (row : Row) (b : List Row) → are_named_once (a ++ row ∷ b) ≡ true → is_among a (name_of row) ≡ false
 once_new [] row b e = refl
 once_new (first ∷ a) row b e =
     let apart : is_among (a ++ row ∷ b) (name_of first) ≡ false =
-    not_true (is_among (a ++ row ∷ b) (name_of first)) (and_left (not (is_among (a ++ row ∷ b) (name_of first))) (are_named_once (a ++ row ∷ b)) e) in
+    not-true (is_among (a ++ row ∷ b) (name_of first)) (and_parts (not (is_among (a ++ row ∷ b) (name_of first))) (are_named_once (a ++ row ∷ b)) e).0 in
     let other : bytes_eq (name_of first) (name_of row) ≡ false =
-    or_left (bytes_eq (name_of first) (name_of row)) (is_among b (name_of first))
-    (or_right (is_among a (name_of first)) (is_among (row ∷ b) (name_of first)) (sym (is_among-append a (row ∷ b) (name_of first)) ∙ apart)) in
+    (or_parts (bytes_eq (name_of first) (name_of row)) (is_among b (name_of first)) (or_parts (is_among a (name_of first)) (is_among (row ∷ b) (name_of first)) (sym (is_among-append a (row ∷ b) (name_of first)) ∙ apart)).1).0 in
     ap₂ (λ x y. x || y) (other_way (name_of first) (name_of row) other)
-    (once_new a row b (and_right (not (is_among (a ++ row ∷ b) (name_of first))) (are_named_once (a ++ row ∷ b)) e))
+    (once_new a row b (and_parts (not (is_among (a ++ row ∷ b) (name_of first))) (are_named_once (a ++ row ∷ b)) e).1)
 
 or_true : (b : Bool) → (b || true) ≡ true
 or_true true = refl
@@ -59,8 +59,8 @@ set_here : (a : List Row) (old row : Row) (b : List Row) → name_of row ≡ nam
 set_here [] old row b e new =
     ap (λ t. if t then row ∷ b else old ∷ rows_with row b) (ap (bytes_eq (name_of row)) (sym e) ∙ named_itself (name_of row))
 set_here (first ∷ a) old row b e new =
-    ap (λ t. if t then row ∷ (a ++ old ∷ b) else first ∷ rows_with row (a ++ old ∷ b)) (or_left (is_named (name_of row) first) (is_among a (name_of row)) new)
-    ∙ ap (λ rows. first ∷ rows) (set_here a old row b e (or_right (is_named (name_of row) first) (is_among a (name_of row)) new))
+    ap (λ t. if t then row ∷ (a ++ old ∷ b) else first ∷ rows_with row (a ++ old ∷ b)) (or_parts (is_named (name_of row) first) (is_among a (name_of row)) new).0
+    ∙ ap (λ rows. first ∷ rows) (set_here a old row b e (or_parts (is_named (name_of row) first) (is_among a (name_of row)) new).1)
 
 -- ---- rows as inputs
 name-as_input : (row : Row) → name_of (as_input row) ≡ name_of row
@@ -114,9 +114,9 @@ known_same s t e (row ∷ rows) = ap₂ (λ x y. x && y) (list_all_agree (is_qua
 earlier-partly : (before a b : List Row) → are_earlier before (a ++ b) ≡ true → are_earlier before (a ++ map as_input b) ≡ true
 earlier-partly before [] b e = earlier-inputs before b
 earlier-partly before (row ∷ a) b e =
-    and_both (are_known before row) (are_earlier (before ++ row ∷ []) (a ++ map as_input b))
-    (and_left (are_known before row) (are_earlier (before ++ row ∷ []) (a ++ b)) e)
-    (earlier-partly (before ++ row ∷ []) a b (and_right (are_known before row) (are_earlier (before ++ row ∷ []) (a ++ b)) e))
+    and_from (are_known before row) (are_earlier (before ++ row ∷ []) (a ++ map as_input b))
+    (and_parts (are_known before row) (are_earlier (before ++ row ∷ []) (a ++ b)) e).0
+    (earlier-partly (before ++ row ∷ []) a b (and_parts (are_known before row) (are_earlier (before ++ row ∷ []) (a ++ b)) e).1)
 
 partly_well_formed : (a b : List Row) → IsWellFormed (of_rows (a ++ b)) → IsWellFormed (of_rows (a ++ map as_input b))
 partly_well_formed a b h = record { limit = limit; once = once-partly a b ∙ h.once; known = known; earlier = earlier-partly [] a b h.earlier } where
@@ -127,12 +127,12 @@ partly_well_formed a b h = record { limit = limit; once = once-partly a b ∙ h.
   same n = quantity_is_row (a ++ map as_input b) n ∙ is_among-partly a b n ∙ sym (quantity_is_row (a ++ b) n)
 
   prefix : list_all (are_known (a ++ b)) a ≡ true
-  prefix = and_left (list_all (are_known (a ++ b)) a) (list_all (are_known (a ++ b)) b) (sym (list_all-append (are_known (a ++ b)) a b) ∙ h.known)
+  prefix = (and_parts (list_all (are_known (a ++ b)) a) (list_all (are_known (a ++ b)) b) (sym (list_all-append (are_known (a ++ b)) a b) ∙ h.known)).0
 
   known : list_all (are_known (a ++ map as_input b)) (a ++ map as_input b) ≡ true
   known =
       list_all-append (are_known (a ++ map as_input b)) a (map as_input b)
-      ∙ and_both (list_all (are_known (a ++ map as_input b)) a) (list_all (are_known (a ++ map as_input b)) (map as_input b))
+      ∙ and_from (list_all (are_known (a ++ map as_input b)) a) (list_all (are_known (a ++ map as_input b)) (map as_input b))
       (known_same (a ++ map as_input b) (a ++ b) same a ∙ prefix) (known-inputs (a ++ map as_input b) b)
 
 -- ---- runs

@@ -3,13 +3,14 @@ use Rattle.std.specs.Prelude.{◌≡◌, ℕ, suc, ◌+◌, ◌<◌, ◌≤◌, 
 use Rattle.std.specs.List.{list_all, flat_map}
 use Rattle.std.proofs.Common.{sym, ◌∙◌, ap, ap₂, subst, get_or, drop-cons, add-one}
 use Rattle.std.proofs.lemmas.List.{drop_all, append_assoc, append-nil, flat_map_more, map-id}
+use Rattle.std.proofs.lemmas.Bool.{and_parts, or_parts, and_from, not-true}
 use Rattle.formula_ast.specs.Trees.{uses}
 use Rattle.formula_ast.specs.Printing.{print}
 use Rattle.formula_ast.proofs.Exponents.{read_exponents}
 use Rattle.sheet_rows.specs.Rows.{Row, Given, Formula, Sheet, name_of}
 use Rattle.sheet_rows.specs.Sheets.{is_among, is_quantity_in, are_named_once, are_known, are_earlier}
 use Rattle.sheet_rows.specs.Regular.{AreRegular, IsStanding}
-use Rattle.sheet_rows.proofs.Conditions.{and_left, and_right, and_both, or_left, or_right, not_true, other_way, all_none}
+use Rattle.sheet_rows.proofs.Conditions.{other_way, all_none}
 use Rattle.sheet_rows.proofs.Verdicts.{added_has, quantity_is_row, list_all_agree}
 use Rattle.value_cache.specs.Quantities.{is_there, first_unknown}
 use Rattle.value_cache.specs.Model.{AllHaveExponents}
@@ -52,11 +53,11 @@ apart_added : (before : List Row) (row : Row) (rest : List Row) → are_apart be
     → are_apart (before ++ row ∷ []) rest ≡ true
 apart_added before row [] e f = refl
 apart_added before row (next ∷ rest) e f =
-    and_both (not (is_among (before ++ row ∷ []) (name_of next))) (are_apart (before ++ row ∷ []) rest)
+    and_from (not (is_among (before ++ row ∷ []) (name_of next))) (are_apart (before ++ row ∷ []) rest)
     (ap not (added_has before row (name_of next)
-    ∙ ap₂ (λ a b. a || b) (not_true (is_among before (name_of next)) (and_left (not (is_among before (name_of next))) (are_apart before rest) e))
-    (other_way (name_of row) (name_of next) (or_left (bytes_eq (name_of row) (name_of next)) (is_among rest (name_of row)) f))))
-    (apart_added before row rest (and_right (not (is_among before (name_of next))) (are_apart before rest) e) (or_right (bytes_eq (name_of row) (name_of next)) (is_among rest (name_of row)) f))
+    ∙ ap₂ (λ a b. a || b) (not-true (is_among before (name_of next)) (and_parts (not (is_among before (name_of next))) (are_apart before rest) e).0)
+    (other_way (name_of row) (name_of next) (or_parts (bytes_eq (name_of row) (name_of next)) (is_among rest (name_of row)) f).0)))
+    (apart_added before row rest (and_parts (not (is_among before (name_of next))) (are_apart before rest) e).1 (or_parts (bytes_eq (name_of row) (name_of next)) (is_among rest (name_of row)) f).1)
 
 follow : (before rest : List Row) → are_apart before rest ≡ true → are_named_once rest ≡ true → are_earlier before rest ≡ true
     → AreRegular rest → Follow before rest
@@ -65,15 +66,15 @@ follow before (row ∷ rest) apart once earlier regular = (
   record {
     fresh =
         fresh_by before row
-        (not_true (is_among before (name_of row)) (and_left (not (is_among before (name_of row))) (are_apart before rest) apart));
-    known = known_by before row (and_left (are_known before row) (are_earlier (before ++ row ∷ []) rest) earlier);
+        (not-true (is_among before (name_of row)) (and_parts (not (is_among before (name_of row))) (are_apart before rest) apart).0);
+    known = known_by before row (and_parts (are_known before row) (are_earlier (before ++ row ∷ []) rest) earlier).0;
     regular = regular.0;
   },
   follow (before ++ row ∷ []) rest
-      (apart_added before row rest (and_right (not (is_among before (name_of row))) (are_apart before rest) apart)
-      (not_true (is_among rest (name_of row)) (and_left (not (is_among rest (name_of row))) (are_named_once rest) once)))
-      (and_right (not (is_among rest (name_of row))) (are_named_once rest) once)
-      (and_right (are_known before row) (are_earlier (before ++ row ∷ []) rest) earlier)
+      (apart_added before row rest (and_parts (not (is_among before (name_of row))) (are_apart before rest) apart).1
+      (not-true (is_among rest (name_of row)) (and_parts (not (is_among rest (name_of row))) (are_named_once rest) once).0))
+      (and_parts (not (is_among rest (name_of row))) (are_named_once rest) once).1
+      (and_parts (are_known before row) (are_earlier (before ++ row ∷ []) rest) earlier).1
       regular.1,
 )
 

@@ -2,6 +2,7 @@
 use Rattle.std.specs.Prelude.{◌≡◌, ℕ, suc, ◌+◌, ◌≤◌, ◌<◌, ◌&&◌, Bool, true, false, cond, nat_le, max, List, [], ◌∷◌, ◌++◌, Option, None, Some, option_map, refl}
 use Rattle.std.proofs.Common.{sym, ap, subst, ◌∙◌, arith}
 use Rattle.std.proofs.lemmas.Bool.Decides.{nat_tests}
+use Rattle.std.proofs.lemmas.Bool.{and_parts}
 use Rattle.decimal18.specs.Bound.{Bound}
 use Rattle.decimal18.specs.declared.literal.NumFault.TheVariants.{NumberRange}
 use Rattle.formula_ast.specs.Tokens.{Token, kinds}
@@ -47,12 +48,8 @@ next_nesting : (w v : Stage Written) (k : Kind) → StageBased w → step writin
     → stage_nesting v ≡ max (stage_nesting w) (token_nesting w k)
 next_nesting w v k b h = some_is (step writings w k) (λ u. stage_nesting u ≡ max (stage_nesting w) (token_nesting w k)) v (step_deepens w k b) h
 
-left_true : (a b : Bool) → (a && b) ≡ true → a ≡ true
-left_true true b h = refl
-left_true false b h = absurd (cc)
-
 token_nests : (w : Stage Written) (k : Kind) → is_too_deep (stage_meant w) k ≡ true → nests k ≡ true
-token_nests (AtOperand l o) k h = left_true (nests k) (nat_le deepest (l.base + l.minuses)) h
+token_nests (AtOperand l o) k h = (and_parts (nests k) (nat_le deepest (l.base + l.minuses)) h).0
 token_nests (AtAtom l x o) k h = absurd (cc)
 token_nests (AtEnd b left x o) k h = absurd (cc)
 token_nests (AtExponent l x minus o) k h = absurd (cc)

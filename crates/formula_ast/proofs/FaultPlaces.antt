@@ -17,7 +17,7 @@ use Rattle.formula_ast.specs.declared.token.Kind.{Kind}
 use Rattle.formula_ast.specs.declared.token.Kind.TheVariants.{Number as NumberToken, Name, Joins, Hat, Open, Close, Glued, Wrong}
 use Rattle.formula_ast.specs.declared.fault.FormulaFault.{FormulaFault}
 use Rattle.formula_ast.specs.declared.fault.FormulaFault.TheVariants.{Syntax, UnknownFunction, Number, BadPower, TooDeep, TooMany, OutOfMemory}
-use Rattle.formula_ast.specs.FaultPlaces.{place_of}
+use Rattle.formula_ast.specs.Refusals.{place_of}
 
 -- ---- a token is within the text
 cond_le : (t : Bool) (a b n : ℕ) → a ≤ n → b ≤ n → cond t a b ≤ n
@@ -98,8 +98,12 @@ tokens_within (byte ∷ bytes) zero at most h =
     (omega (arith, h, fits), tokens_within bytes (len - 1) (at + 1) most (omega (arith, h)))
 
 -- ---- the places of faults
+-- the place of the fault, and of that which there may be, is at most this
+abbrev pub Within : ℕ → FormulaFault → Type 0
+Within most fault = IfSome (place_of fault) (λ at. at ≤ most)
+
 abbrev pub At : ℕ → Option FormulaFault → Type 0
-At at o = IfSome o (λ fault. place_of fault ≤ at)
+At most o = IfSome o (Within most)
 
 cond_at : (t : Bool) (a b : Option FormulaFault) (at : ℕ) → At at a → At at b → At at (cond t a b)
 cond_at true a b at h k = h
@@ -160,7 +164,7 @@ syntax_le (AtExponent l x minus o) at len k = omega (arith, glued_le k len)
 
 -- ---- the reading
 abbrev pub IsWithin : ℕ → Result Tree FormulaFault → Type 0
-IsWithin most r = IfErr r (λ fault. place_of fault ≤ most)
+IsWithin most r = IfErr r (Within most)
 
 end_within : (o : Option Tree) (end most : ℕ) → end ≤ most → IsWithin most (at_end o end)
 end_within None end most h = h
@@ -192,8 +196,8 @@ text_within text = reading_within (tokens text 0 0) first_stage 0 0 (length text
 
 -- the reader's fault is within the text
 fault_told : (fault : FormulaFault) (r : Result Tree FormulaFault) (most : ℕ) → (fault ≢ OutOfMemory → r ≡ Err fault) → IsWithin most r →
-    place_of fault ≤ most
-fault_told OutOfMemory r most f w = omega arith
+    Within most fault
+fault_told OutOfMemory r most f w = tt
 fault_told (Syntax at) r most f w = rw (f (λ e. cc)) at w
 fault_told (UnknownFunction at) r most f w = rw (f (λ e. cc)) at w
 fault_told (Number fault at) r most f w = rw (f (λ e. cc)) at w
@@ -202,6 +206,6 @@ fault_told (TooDeep at) r most f w = rw (f (λ e. cc)) at w
 fault_told (TooMany at) r most f w = rw (f (λ e. cc)) at w
 
 pub fault_within : (text : List ℕ) (r : Result Formula FormulaFault) → GivesBy tree_of OutOfMemory r (reading_of text) →
-    IfErr r (λ fault. place_of fault ≤ length text)
+    IfErr r (Within (length text))
 fault_within text (Ok f) h = tt
 fault_within text (Err fault) h = fault_told fault (reading_of text) (length text) h (text_within text)

@@ -18,7 +18,7 @@ use Rattle.formula_ast.specs.declared.fault.FormulaFault.TheVariants as fault
 pub record IsAt (text rest : List ℕ) (s : Stage Tree) (nodes end : ℕ) : Type 0 where
   pub within : length rest ≤ length text
   pub tight : IsTight rest
-  pub few : nodes ≤ 256
+  pub few : nodes ≤ most_nodes
   pub read : reading s nodes end (tokens rest 0 (length text - length rest)) ≡ reading_of text
 
 -- ---- a rule beyond the grammar is broken only where the grammar goes on
@@ -101,15 +101,15 @@ read_ruled text rest after s nodes end len kind opens f a some first o r =
     (unruled s nodes (length text - length rest) kind _)
 
 few_by : (w : Option FormulaFault) (d b : Bool) (x y : FormulaFault) (nodes : ℕ) →
-    or_else w (cond d (Some x) (cond (b && nat_le most_nodes nodes) (Some y) None)) ≡ None → nodes ≤ 256 →
-    (d ≡ false) × (nodes + cond b 1 0 ≤ 256)
+    or_else w (cond d (Some x) (cond (b && nat_le most_nodes nodes) (Some y) None)) ≡ None → nodes ≤ most_nodes →
+    (d ≡ false) × (nodes + cond b 1 0 ≤ most_nodes)
 few_by (Some w) d b x y nodes h few = absurd (cc)
 few_by None true b x y nodes h few = absurd (cc)
 few_by None false false x y nodes h few = (refl, omega arith)
 few_by None false true x y nodes h few = (refl, grind (arith, nat_tests))
 
-pub few_more : (s : Stage Tree) (nodes at : ℕ) (kind : Kind) (opens : Bool) → None ≡ refusal s nodes at kind opens → nodes ≤ 256 →
-    (is_too_deep s kind ≡ false) × (nodes + node_count s kind ≤ 256)
+pub few_more : (s : Stage Tree) (nodes at : ℕ) (kind : Kind) (opens : Bool) → None ≡ refusal s nodes at kind opens → nodes ≤ most_nodes →
+    (is_too_deep s kind ≡ false) × (nodes + node_count s kind ≤ most_nodes)
 few_more s nodes at kind opens r few =
     few_by (word_fault s at kind opens) (is_too_deep s kind) (is_node s kind) (fault.TooDeep at) (fault.TooMany at) nodes (sym r) few
 

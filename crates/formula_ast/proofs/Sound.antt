@@ -98,7 +98,7 @@ ended_told : (l : Waiting Written) (x : Written) (o : List (Waiting Written))
     → told (AtEnd l.base l.added (factor_done writings l x) o) ≡ told (AtAtom l x o)
 ended_told l x o = ap (λ t. outer_told o ++ (left_told l.added ++ t)) (factor_told l x) ∙ simp append_assoc
 
-sound_next : {w v : Stage Written} {k : Kind} → IsStep writings w k v → IsSound w → IsSound v
+pub sound_next : {w v : Stage Written} {k : Kind} → IsStep writings w k v → IsSound w → IsSound v
 sound_next (TakesNumber l o value power) h = ((omega arith, tt), h)
 sound_next (TakesName l o name) h = ((omega arith, tt), h)
 sound_next (Opens l o) h = ((tt, tt), h)
@@ -110,7 +110,7 @@ sound_next (TakesExponent l x minus o value power) h =
     (factor_sound l (Powered x minus value power) h.1.0 (omega arith, h.0), (h.1.0.0, h.1.1))
 sound_next s h = h
 
-told_next : {w v : Stage Written} {k : Kind} → IsStep writings w k v → told v ≡ told w ++ k ∷ []
+pub told_next : {w v : Stage Written} {k : Kind} → IsStep writings w k v → told v ≡ told w ++ k ∷ []
 told_next (EndsAtom l x o {k = k} s) = told_next s ∙ ap (λ t. t ++ k ∷ []) (ended_told l x o)
 told_next (Adds b left x o s t) =
     ap (λ w. outer_told o ++ ((w ++ Joins s ∷ []) ++ [])) (put_told left x) ∙ simp (append_assoc, append-nil)

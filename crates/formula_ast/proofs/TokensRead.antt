@@ -1,34 +1,28 @@
 -- The tokens that were read before a stage: that they are those, their nodes, and whether an exponent
 -- comes after them.
-use Rattle.std.specs.Prelude.{◌≡◌, ℕ, ◌+◌, Bool, true, false, List, [], ◌∷◌, ◌++◌, Option, None, Some, IfSome, refl}
+use Rattle.std.specs.Prelude.{◌≡◌, ◌+◌, Bool, true, false, List, [], ◌∷◌, ◌++◌, Option, None, Some, IfSome, refl}
 use Rattle.std.proofs.Common.{sym, ap, subst, ◌∙◌, arith, inl, inr, append_assoc}
 use mathlib.Core.List.{append-nil}
 use Rattle.formula_ast.specs.Trees.{Tree, nodes}
 use Rattle.formula_ast.specs.Grammar.{Written, Digits, Word, Minused, Both, Powered, Group, spelling, meant, Spells}
-use Rattle.formula_ast.specs.Machine.{writings, Waiting, Stage, AtOperand, AtAtom, AtEnd, AtExponent, factor_done, after, step, then_some, stages}
+use Rattle.formula_ast.specs.Machine.{writings, Waiting, Stage, AtOperand, AtAtom, AtEnd, AtExponent, step, then_some, stages}
 use Rattle.formula_ast.specs.Reading.{node_count}
 use Rattle.formula_ast.specs.Refusals.{IsBeforeExponent, nodes_from, nodes_in}
-use Rattle.formula_ast.specs.declared.token.Sign.{Sign}
-use Rattle.formula_ast.specs.declared.token.Sign.TheVariants.{Plus, Minus, Times, Over}
+use Rattle.formula_ast.specs.declared.token.Sign.TheVariants.{Minus}
 use Rattle.formula_ast.specs.declared.token.Kind.{Kind}
-use Rattle.formula_ast.specs.declared.token.Kind.TheVariants.{Number, Name, Joins, Hat, Open, Close, Glued, Wrong}
+use Rattle.formula_ast.specs.declared.token.Kind.TheVariants.{Number, Joins, Hat, Close}
 use Rattle.formula_ast.proofs.Runs.{stage_meant}
-use Rattle.formula_ast.proofs.Sound.{outer_told, waiting_told, told, IsSound, Goes, step_goes}
+use Rattle.formula_ast.proofs.Sound.{outer_told, waiting_told, told, IsSound, sound_next, told_next}
+use Rattle.formula_ast.proofs.Steps.{IsStep, EndsAtom, Adds, Multiplies, Closes, each_step, first_step}
 
 -- ---- the tokens themselves
-then_told : (o : Option (Stage Written)) (f : Stage Written → Option (Stage Written)) (v : Stage Written)
-    (before : List Kind) (k : Kind) (ks : List Kind)
-    → IfSome o (Goes before k) → ((u : Stage Written) → IsSound u → f u ≡ Some v → told v ≡ told u ++ ks)
-    → then_some o f ≡ Some v → told v ≡ before ++ k ∷ ks
-then_told None f v before k ks g all h = absurd (cc)
-then_told (Some u) f v before k ks g all h = all u g.sound h ∙ ap (λ t. t ++ ks) g.spelt ∙ simp append_assoc
-
 pub stages_told : (ks : List Kind) (w v : Stage Written) → IsSound w → stages writings w ks ≡ Some v → told v ≡ told w ++ ks
 stages_told [] w v s h =
     let same : w ≡ v = cc in
     ap told (sym same) ∙ sym (append-nil (told w))
 stages_told (k ∷ ks) w v s h =
-    then_told (step writings w k) (λ u. stages writings u ks) v (told w) k ks (step_goes w k s) (λ u t. stages_told ks u v t) h
+    let first = first_step writings w k (λ u. stages writings u ks) v h in
+    stages_told ks first.stage v (sound_next first.is s) first.rest ∙ ap (λ t. t ++ ks) (told_next first.is) ∙ simp append_assoc
 
 -- the stage after two parts of the tokens
 then_append : (o : Option (Stage Written)) (ks ms : List Kind)
@@ -90,63 +84,14 @@ exponent_read ks w v h (inr e) =
 abbrev Counts : Stage Written → Kind → List Kind → Stage Written → Type 0
 Counts w k ks v = nodes_from (k ∷ ks) (in_exponent w) ≡ node_count (stage_meant w) k + nodes_from ks (in_exponent v)
 
-after_counts : (b : ℕ) (left : Option (Written × Sign)) (x : Written) (o : List (Waiting Written)) (k : Kind) (ks : List Kind)
-    → IfSome (after writings b left x o k) (Counts (AtEnd b left x o) k ks)
-after_counts b left x o (Joins Plus) ks = omega arith
-after_counts b left x o (Joins Minus) ks = omega arith
-after_counts b left x o (Joins Times) ks = omega arith
-after_counts b left x o (Joins Over) ks = omega arith
-after_counts b left x [] Close ks = tt
-after_counts b left x (l ∷ o) Close ks = omega arith
-after_counts b left x o (Number value power) ks = tt
-after_counts b left x o (Name name) ks = tt
-after_counts b left x o Hat ks = tt
-after_counts b left x o Open ks = tt
-after_counts b left x o Glued ks = tt
-after_counts b left x o Wrong ks = tt
+counts_next : {w v : Stage Written} {k : Kind} → IsStep writings w k v → (ks : List Kind) → Counts w k ks v
+counts_next (EndsAtom l x o (Adds b left y r s t)) ks = omega arith
+counts_next (EndsAtom l x o (Multiplies b left y r s t)) ks = omega arith
+counts_next (EndsAtom l x o (Closes b left y w r)) ks = omega arith
+counts_next s ks = omega arith
 
 pub step_counts : (w : Stage Written) (k : Kind) (ks : List Kind) → IfSome (step writings w k) (Counts w k ks)
-step_counts (AtOperand l o) (Number value power) ks = omega arith
-step_counts (AtOperand l o) (Name name) ks = omega arith
-step_counts (AtOperand l o) (Joins Minus) ks = omega arith
-step_counts (AtOperand l o) (Joins Plus) ks = tt
-step_counts (AtOperand l o) (Joins Times) ks = tt
-step_counts (AtOperand l o) (Joins Over) ks = tt
-step_counts (AtOperand l o) Open ks = omega arith
-step_counts (AtOperand l o) Hat ks = tt
-step_counts (AtOperand l o) Close ks = tt
-step_counts (AtOperand l o) Glued ks = tt
-step_counts (AtOperand l o) Wrong ks = tt
-step_counts (AtAtom l x o) Hat ks = omega arith
-step_counts (AtAtom l x o) (Number value power) ks = tt
-step_counts (AtAtom l x o) (Name name) ks = tt
-step_counts (AtAtom l x o) (Joins s) ks = after_counts l.base l.added (factor_done writings l x) o (Joins s) ks
-step_counts (AtAtom l x o) Open ks = tt
-step_counts (AtAtom l x o) Close ks = after_counts l.base l.added (factor_done writings l x) o Close ks
-step_counts (AtAtom l x o) Glued ks = tt
-step_counts (AtAtom l x o) Wrong ks = tt
-step_counts (AtEnd b left x o) k ks = after_counts b left x o k ks
-step_counts (AtExponent l x minus o) (Number value power) ks = omega arith
-step_counts (AtExponent l x false o) (Joins Minus) ks = omega arith
-step_counts (AtExponent l x true o) (Joins Minus) ks = tt
-step_counts (AtExponent l x minus o) (Joins Plus) ks = tt
-step_counts (AtExponent l x minus o) (Joins Times) ks = tt
-step_counts (AtExponent l x minus o) (Joins Over) ks = tt
-step_counts (AtExponent l x minus o) (Name name) ks = tt
-step_counts (AtExponent l x minus o) Hat ks = tt
-step_counts (AtExponent l x minus o) Open ks = tt
-step_counts (AtExponent l x minus o) Close ks = tt
-step_counts (AtExponent l x minus o) Glued ks = tt
-step_counts (AtExponent l x minus o) Wrong ks = tt
-
-then_counts : (o : Option (Stage Written)) (w v : Stage Written) (k : Kind) (ks ms : List Kind)
-    → IfSome o (Counts w k ks) → IfSome o (Counts w k (ks ++ ms))
-    → ((u : Stage Written) → stages writings u ks ≡ Some v
-    → nodes_from (ks ++ ms) (in_exponent u) ≡ nodes_from ks (in_exponent u) + nodes_from ms (in_exponent v))
-    → then_some o (λ u. stages writings u ks) ≡ Some v
-    → nodes_from (k ∷ (ks ++ ms)) (in_exponent w) ≡ nodes_from (k ∷ ks) (in_exponent w) + nodes_from ms (in_exponent v)
-then_counts None w v k ks ms a b all h = absurd (cc)
-then_counts (Some u) w v k ks ms a b all h = omega (arith, a, b, all u h)
+step_counts w k ks = each_step writings w k (λ v s. counts_next s ks)
 
 -- the nodes of two parts of the tokens
 pub stages_nodes : (ks ms : List Kind) (w v : Stage Written) → stages writings w ks ≡ Some v
@@ -155,7 +100,8 @@ stages_nodes [] ms w v h =
     let same : w ≡ v = cc in
     ap (λ u. nodes_from ms (in_exponent u)) same ∙ omega arith
 stages_nodes (k ∷ ks) ms w v h =
-    then_counts (step writings w k) w v k ks ms (step_counts w k ks) (step_counts w k (ks ++ ms)) (λ u. stages_nodes ks ms u v) h
+    let first = first_step writings w k (λ u. stages writings u ks) v h in
+    omega (arith, counts_next first.is ks, counts_next first.is (ks ++ ms), stages_nodes ks ms first.stage v first.rest)
 
 -- tokens that spell a formula write its nodes
 spelt_nodes : (c : Written) (ms : List Kind) → nodes_from (spelling c ++ ms) false ≡ nodes (meant c) + nodes_from ms false

@@ -1,15 +1,15 @@
 -- How deep what was read before a stage nests, and how deep the formulas nest that go on from it.
-use Rattle.std.specs.Prelude.{◌≡◌, ℕ, zero, suc, ◌+◌, ◌≤◌, Bool, true, false, cond, max, List, [], ◌∷◌, Option, None, Some, IfSome, refl}
+use Rattle.std.specs.Prelude.{◌≡◌, ℕ, zero, suc, ◌+◌, ◌≤◌, cond, max, List, [], ◌∷◌, Option, None, Some, IfSome, refl}
 use Rattle.std.proofs.Common.{ap, ◌∙◌, arith}
 use Rattle.formula_ast.specs.Grammar.{Written, Digits, Minused, Powered, Group}
-use Rattle.formula_ast.specs.Machine.{writings, Waiting, Stage, AtOperand, AtAtom, AtEnd, AtExponent, put, negated, factor_done, closed, signed_on, after, prefixed, exponent_minus, step, finish, then_some, run}
+use Rattle.formula_ast.specs.Machine.{writings, Waiting, Stage, AtOperand, AtAtom, AtEnd, AtExponent, put, negated, factor_done, step, finish, then_some, run}
 use Rattle.formula_ast.specs.Reading.{nests}
 use Rattle.formula_ast.specs.Rules.{nesting}
 use Rattle.formula_ast.specs.declared.token.Sign.{Sign}
-use Rattle.formula_ast.specs.declared.token.Sign.TheVariants.{Plus, Minus, Times, Over}
 use Rattle.formula_ast.specs.declared.token.Kind.{Kind}
-use Rattle.formula_ast.specs.declared.token.Kind.TheVariants.{Number, Name, Joins, Hat, Open, Close, Glued, Wrong}
-use Rattle.formula_ast.proofs.Nesting.{IsBased, StageBased, step_based}
+use Rattle.formula_ast.specs.declared.token.Kind.TheVariants.{Number, Close}
+use Rattle.formula_ast.proofs.Nesting.{IsBased, StageBased, based_next}
+use Rattle.formula_ast.proofs.Steps.{IsStep, EndsAtom, Adds, Closes, TakesExponent, each_step, first_step}
 use Rattle.formula_ast.proofs.AgainNodes.{some_is}
 
 -- ---- how deep what was read nests
@@ -53,83 +53,20 @@ factor_nesting : (l : Waiting Written) (x : Written)
     → l.base + nesting (factor_done writings l x) ≡ max (l.base + l.minuses + nesting x) (left_nesting l.base l.multiplied)
 factor_nesting l x = omega (arith, put_nesting l.base l.multiplied (negated writings l.minuses x), negated_nesting l.minuses x)
 
-signed_deepens : (b : ℕ) (left : Option (Written × Sign)) (x : Written) (o : List (Waiting Written)) (s : Sign)
-    → stage_nesting (signed_on writings b left x o s) ≡ stage_nesting (AtEnd b left x o)
-signed_deepens b left x o Plus = omega (arith, put_nesting b left x)
-signed_deepens b left x o Minus = omega (arith, put_nesting b left x)
-signed_deepens b left x o Times = omega arith
-signed_deepens b left x o Over = omega arith
-
-closed_deepens : (b : ℕ) (left : Option (Written × Sign)) (x : Written) (o : List (Waiting Written)) → IsBased b o
-    → IfSome (closed (Group (put writings left x)) o) (λ v. stage_nesting v ≡ stage_nesting (AtEnd b left x o))
-closed_deepens b left x [] h = tt
-closed_deepens b left x (l ∷ o) h = omega (arith, h.0, put_nesting b left x)
-
-after_deepens : (b : ℕ) (left : Option (Written × Sign)) (x : Written) (o : List (Waiting Written)) (k : Kind) → IsBased b o
-    → IfSome (after writings b left x o k) (λ v. stage_nesting v ≡ stage_nesting (AtEnd b left x o))
-after_deepens b left x o (Joins s) h = signed_deepens b left x o s
-after_deepens b left x o Close h = closed_deepens b left x o h
-after_deepens b left x o (Number value power) h = tt
-after_deepens b left x o (Name name) h = tt
-after_deepens b left x o Hat h = tt
-after_deepens b left x o Open h = tt
-after_deepens b left x o Glued h = tt
-after_deepens b left x o Wrong h = tt
-
 -- a factor ends, and nests as deep as before
 pub ended_nesting : (l : Waiting Written) (x : Written) (o : List (Waiting Written))
     → stage_nesting (AtEnd l.base l.added (factor_done writings l x) o) ≡ stage_nesting (AtAtom l x o)
 ended_nesting l x o = omega (arith, factor_nesting l x)
 
--- the same, with the depth that the step adds
-unchanged : (o : Option (Stage Written)) (n m : ℕ) → n ≡ m → IfSome o (λ v. stage_nesting v ≡ n) → IfSome o (λ v. stage_nesting v ≡ max m 0)
-unchanged None n m e h = tt
-unchanged (Some v) n m e h = omega (arith, h, e)
-
-prefixed_deepens : (l : Waiting Written) (o : List (Waiting Written)) (s : Sign) → IfSome (prefixed l o s) (Deepens (AtOperand l o) (Joins s))
-prefixed_deepens l o Minus = omega arith
-prefixed_deepens l o Plus = tt
-prefixed_deepens l o Times = tt
-prefixed_deepens l o Over = tt
-
-exponent_minus_deepens : (l : Waiting Written) (x : Written) (minus : Bool) (o : List (Waiting Written)) (s : Sign)
-    → IfSome (exponent_minus l x minus o s) (Deepens (AtExponent l x minus o) (Joins s))
-exponent_minus_deepens l x false o Minus = omega arith
-exponent_minus_deepens l x true o Minus = tt
-exponent_minus_deepens l x minus o Plus = tt
-exponent_minus_deepens l x minus o Times = tt
-exponent_minus_deepens l x minus o Over = tt
+deepens_next : {w v : Stage Written} {k : Kind} → IsStep writings w k v → StageBased w → Deepens w k v
+deepens_next (EndsAtom l x o s) h = omega (arith, ended_nesting l x o, deepens_next s h)
+deepens_next (Adds b left x o s t) h = omega (arith, put_nesting b left x)
+deepens_next (Closes b left x l o) h = omega (arith, h.0, put_nesting b left x)
+deepens_next (TakesExponent l x minus o value power) h = omega (arith, ended_nesting l (Powered x minus value power) o)
+deepens_next s h = omega arith
 
 pub step_deepens : (w : Stage Written) (k : Kind) → StageBased w → IfSome (step writings w k) (Deepens w k)
-step_deepens (AtOperand l o) (Number value power) h = omega arith
-step_deepens (AtOperand l o) (Name name) h = omega arith
-step_deepens (AtOperand l o) (Joins s) h = prefixed_deepens l o s
-step_deepens (AtOperand l o) Open h = omega arith
-step_deepens (AtOperand l o) Hat h = tt
-step_deepens (AtOperand l o) Close h = tt
-step_deepens (AtOperand l o) Glued h = tt
-step_deepens (AtOperand l o) Wrong h = tt
-step_deepens (AtAtom l x o) Hat h = omega arith
-step_deepens (AtAtom l x o) (Number value power) h = tt
-step_deepens (AtAtom l x o) (Name name) h = tt
-step_deepens (AtAtom l x o) (Joins s) h =
-    unchanged (after writings l.base l.added (factor_done writings l x) o (Joins s)) _ _ (ended_nesting l x o)
-    (after_deepens l.base l.added (factor_done writings l x) o (Joins s) h)
-step_deepens (AtAtom l x o) Open h = tt
-step_deepens (AtAtom l x o) Close h =
-    unchanged (after writings l.base l.added (factor_done writings l x) o Close) _ _ (ended_nesting l x o)
-    (after_deepens l.base l.added (factor_done writings l x) o Close h)
-step_deepens (AtAtom l x o) Glued h = tt
-step_deepens (AtAtom l x o) Wrong h = tt
-step_deepens (AtEnd b left x o) k h = unchanged (after writings b left x o k) _ _ refl (after_deepens b left x o k h)
-step_deepens (AtExponent l x minus o) (Number value power) h = omega (arith, ended_nesting l (Powered x minus value power) o)
-step_deepens (AtExponent l x minus o) (Joins s) h = exponent_minus_deepens l x minus o s
-step_deepens (AtExponent l x minus o) (Name name) h = tt
-step_deepens (AtExponent l x minus o) Hat h = tt
-step_deepens (AtExponent l x minus o) Open h = tt
-step_deepens (AtExponent l x minus o) Close h = tt
-step_deepens (AtExponent l x minus o) Glued h = tt
-step_deepens (AtExponent l x minus o) Wrong h = tt
+step_deepens w k h = each_step writings w k (λ v s. deepens_next s h)
 
 finish_nesting : (w : Stage Written) → StageBased w → IfSome (finish writings w) (λ c. nesting c ≡ stage_nesting w)
 finish_nesting (AtOperand l o) h = tt
@@ -140,16 +77,11 @@ finish_nesting (AtEnd b left x (w ∷ o)) h = tt
 finish_nesting (AtExponent l x minus o) h = tt
 
 -- ---- the formulas that go on from a stage nest as deep as it, at least
-then_nesting : (o : Option (Stage Written)) (w : Stage Written) (k : Kind) (g : Stage Written → Option Written) (c : Written)
-    → IfSome o StageBased → IfSome o (Deepens w k) → ((v : Stage Written) → StageBased v → g v ≡ Some c → stage_nesting v ≤ nesting c)
-    → then_some o g ≡ Some c → stage_nesting w ≤ nesting c
-then_nesting None w k g c b d all h = absurd (cc)
-then_nesting (Some v) w k g c b d all h = omega (arith, d, all v b h)
-
 pub run_nesting : (ks : List Kind) (w : Stage Written) (c : Written) → StageBased w → run writings w ks ≡ Some c → stage_nesting w ≤ nesting c
 run_nesting [] w c b h = omega (arith, some_is (finish writings w) (λ x. nesting x ≡ stage_nesting w) c (finish_nesting w b) h)
 run_nesting (k ∷ ks) w c b h =
-    then_nesting (step writings w k) w k (λ v. run writings v ks) c (step_based w k b) (step_deepens w k b) (λ v. run_nesting ks v c) h
+    let first = first_step writings w k (λ v. run writings v ks) c h in
+    omega (arith, deepens_next first.is b, run_nesting ks first.stage c (based_next first.is b) first.rest)
 
 -- ---- and one nests no deeper
 pub record EndsFlat (w : Stage Written) : Type 0 where

@@ -8,7 +8,6 @@ pub mod Reading
 pub mod Printing
 pub mod Views
 pub mod Rules
-pub mod FaultPlaces
 pub mod Refusals
 pub mod FirstTokens
 pub mod States

@@ -86,6 +86,7 @@ order (TooDeep at) = 2
 order (TooMany at) = 3
 order OutOfMemory = 4
 
+-- the place of a refusal, counted from 0 within the text; being out of memory has none
 abbrev pub place_of : FormulaFault → Option ℕ
 place_of (Syntax at) = Some at
 place_of (UnknownFunction at) = Some at

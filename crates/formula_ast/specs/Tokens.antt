@@ -1,8 +1,9 @@
 -- The tokens of a text. Blanks, which are spaces and tabs, may stand between them. A number is the
 -- longest unsigned literal that stands there, a name the longest run of letters, digits, `_` and points.
-use Rattle.std.specs.Prelude.{ℕ, zero, suc, ◌+◌, ◌-◌, ◌==◌, ◌&&◌, ◌||◌, Bool, false, cond, nat_le, min, List, [], ◌∷◌, take, drop, Option, None, Some, Result, Ok, Err}
+use Rattle.std.specs.Prelude.{ℕ, zero, suc, ◌+◌, ◌-◌, ◌==◌, ◌&&◌, ◌||◌, Bool, false, cond, nat_le, nat_lt, min, List, [], ◌∷◌, take, drop, Option, None, Some, Result, Ok, Err}
 use Rattle.std.specs.List.{prefix_len}
 use Rattle.std.specs.Char.{is_ascii_digit}
+use Rattle.line_text.specs.Characters.{opening_parenthesis, closing_parenthesis, asterisk, plus_sign, minus_sign, point, slash, digit_zero, caret}
 use Rattle.line_text.specs.Pieces.{pieces}
 use Rattle.decimal18.specs.Bound.{Bound}
 use Rattle.decimal18.specs.Literal.{is_exponent_letter, parsed}
@@ -14,7 +15,7 @@ use Rattle.formula_ast.specs.declared.token.Kind.TheVariants.{Number, Name, Join
 
 -- a byte of a name's run
 abbrev pub goes_on_run : ℕ → Bool
-goes_on_run byte = goes_on_name byte || byte == 46
+goes_on_run byte = goes_on_name byte || byte == point
 
 -- ---- the length of the literal at the start
 -- a point and the digits after it, and 0 where there is no point or no digit after it
@@ -24,12 +25,12 @@ with_point (suc digits) = suc (suc digits)
 
 abbrev pub point_len : List ℕ → ℕ
 point_len [] = 0
-point_len (byte ∷ bytes) = cond (byte == 46) (with_point (prefix_len is_ascii_digit bytes)) 0
+point_len (byte ∷ bytes) = cond (byte == point) (with_point (prefix_len is_ascii_digit bytes)) 0
 
 -- the sign of an exponent
 abbrev pub sign_len : List ℕ → ℕ
 sign_len [] = 0
-sign_len (byte ∷ bytes) = cond (byte == 43 || byte == 45) 1 0
+sign_len (byte ∷ bytes) = cond (byte == plus_sign || byte == minus_sign) 1 0
 
 -- the letter, the sign and one to three digits, and 0 where no digit is there
 abbrev pub with_letter : ℕ → ℕ → ℕ
@@ -57,7 +58,7 @@ bound_in (Err fault) = None
 -- an exponent is a single digit from 1 to 9
 abbrev pub power_of : List ℕ → Option ℕ
 power_of [] = None
-power_of (byte ∷ []) = cond (nat_le 49 byte && nat_le byte 57) (Some (byte - 48)) None
+power_of (byte ∷ []) = cond (nat_lt digit_zero byte && nat_le byte (digit_zero + 9)) (Some (byte - digit_zero)) None
 power_of (byte ∷ other ∷ others) = None
 
 -- the text goes on with a letter, a digit, `_` or a point
@@ -73,8 +74,8 @@ name_kind run = cond (is_name run) (Name run) Wrong
 
 abbrev pub mark_kind : ℕ → Kind
 mark_kind byte =
-    cond (byte == 43) (Joins Plus) (cond (byte == 45) (Joins Minus) (cond (byte == 42) (Joins Times) (cond (byte == 47) (Joins Over)
-    (cond (byte == 94) Hat (cond (byte == 40) Open (cond (byte == 41) Close Wrong))))))
+    cond (byte == plus_sign) (Joins Plus) (cond (byte == minus_sign) (Joins Minus) (cond (byte == asterisk) (Joins Times) (cond (byte == slash) (Joins Over)
+    (cond (byte == caret) Hat (cond (byte == opening_parenthesis) Open (cond (byte == closing_parenthesis) Close Wrong))))))
 
 -- the token's length, where the text begins with it
 abbrev pub len_of : List ℕ → ℕ

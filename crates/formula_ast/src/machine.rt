@@ -83,7 +83,7 @@ fn join(alloc: Global, left: Left, right: Formula) -> Result<Formula, OutOfMemor
     })
 }
 
-/// The formula after the left operand that waits for it, if any.
+/// The formula as the right operand of the left one that waits for it, if any.
 fn put(alloc: Global, left: Option<Left>, right: Formula) -> Result<Formula, OutOfMemory>
     ensures { IfOk result (λ f. tree_of f ≡ put trees (left_of left) (tree_of right)) }
 {

@@ -1,6 +1,6 @@
 ghost use Rattle.std.specs.Prelude.{◌≡◌, ◌≤◌, length, Some, None, if◌then◌else◌};
 ghost use Rattle.std.specs.List.{list_all};
-ghost use Rattle.formula_ast.specs.Names.{begins_name, goes_on_name, is_plain_name, is_name};
+ghost use Rattle.formula_ast.specs.Names.{begins_name, goes_on_name, name_limit, is_plain_name, is_name};
 ghost use Rattle.std.specs.Hash as fed;
 ghost use Rattle.std.specs.Cmp.Rules.{hashing};
 ghost use Rattle.std.proofs.Common.{rules};
@@ -12,11 +12,14 @@ use std::marker::Model;
 /// The most bytes of a plain name.
 const PLAIN_LIMIT: usize = 24;
 
+/// The most bytes of a name: those of two plain ones and of the point between them.
+const NAME_LIMIT: usize = 49;
+
 /// The name of a quantity: a plain name, which is a letter or `_` and then letters, digits and `_`, at
 /// most 24 bytes, or that of a table and that of its column, parted by a point. It is held inline.
 #[derive(Clone, Copy, Debug)]
 pub struct Name {
-    text: [u8; 49],
+    text: [u8; NAME_LIMIT],
     len: u8,
 }
 
@@ -50,7 +53,7 @@ impl Name {
     /// The text of the name.
     pub fn as_bytes(&self) -> &[u8]
         ensures text { result.now ≡ self.now }
-        ensures short { length result.now ≤ 49 }
+        ensures short { length result.now ≤ name_limit }
     {
         &self.text[..self.len as usize]
     }
@@ -74,10 +77,10 @@ impl Name {
 
     // These bytes, held inline.
     fn from_bytes(bytes: &[u8]) -> Name
-        requires { length bytes.now ≤ 49 }
+        requires { length bytes.now ≤ name_limit }
         ensures { result ≡ bytes.now }
     {
-        let mut text = [0u8; 49];
+        let mut text = [0u8; NAME_LIMIT];
         text[..bytes.len()].copy_from_slice(bytes);
         Name {
             text,

@@ -1,10 +1,10 @@
-ghost use Rattle.std.specs.Prelude.{◌≡◌, ◌≤◌, length, IfOk, IfErr};
+ghost use Rattle.std.specs.Prelude.{◌≡◌, ◌≤◌, length, IfOk, IfErr, IfSome};
 ghost use Rattle.line_text.specs.Memory.{GivesBy};
 ghost use Rattle.formula_ast.specs.Trees.{HasExponents};
 ghost use Rattle.formula_ast.specs.Views.{tree_of};
 ghost use Rattle.formula_ast.specs.Grammar.{SpellsText};
 ghost use Rattle.formula_ast.specs.Reading.{reading_of};
-ghost use Rattle.formula_ast.specs.FaultPlaces.{place_of};
+ghost use Rattle.formula_ast.specs.Refusals.{place_of};
 ghost use Rattle.formula_ast.specs.declared.fault.FormulaFault.TheVariants.{OutOfMemory};
 
 use crate::fault::FormulaFault;
@@ -23,7 +23,7 @@ use std::alloc::Global;
 pub fn read_formula(alloc: Global, text: &[u8]) -> Result<Formula, FormulaFault>
     ensures exact { GivesBy tree_of OutOfMemory result (reading_of text.now) }
     ensures spelt { IfOk result (λ f. SpellsText text.now (tree_of f)) }
-    ensures within { IfErr result (λ fault. place_of fault ≤ length text.now) }
+    ensures within { IfErr result (λ fault. IfSome (place_of fault) (λ at. at ≤ length text.now)) }
     ensures exponents { IfOk result (λ f. HasExponents (tree_of f)) }
 {
     read_whole(alloc, text)

@@ -1,6 +1,7 @@
 -- The span of a derivative encloses the derivative.
 use Rattle.std.specs.Prelude.{◌≡◌, ℕ, zero, suc, ◌-◌, ◌<◌, ℤ, pos, negsuc, Bool, true, false, ◌||◌, cond, List, [], ◌∷◌, bytes_eq, Option, None, Some, Result, Ok, Err, IfOk, refl}
 use Rattle.std.proofs.Common.{sym, ◌∙◌, subst, arith}
+use Rattle.std.proofs.lemmas.Bool.{or_parts}
 use Rattle.exact_fraction.specs.Number.{ℚ, of_ℤ, ◌+ℚ◌, ◌*ℚ◌, ◌/ℚ◌, neg_ℚ, inv_ℚ}
 use Rattle.exact_fraction.proofs.Ring.{ring, Whole, Minus as Opposite_of, ◌:+◌, ◌:-◌, ◌:*◌, x0, x1}
 use Rattle.exact_fraction.specs.Powers.{power, whole_power}
@@ -75,14 +76,6 @@ power_slope_holds (negsuc k) i v x d vq dq hv hx hd =
     (quotient_holds _ v _ vq (product_holds (Some (point_span (scaled (negsuc k) 0))) x _ _ (whole_encloses (negsuc k)) hx) hv) hd
 
 -- ---- a name that does not occur
-or_left : (a b : Bool) → (a || b) ≡ false → a ≡ false
-or_left false b e = refl
-or_left true b e = cc
-
-or_right : (a b : Bool) → (a || b) ≡ false → b ≡ false
-or_right false b e = e
-or_right true b e = cc
-
 joined_zero : (s : Sign) (v w x d e : ℚ) → d ≡ of_ℤ (pos 0) → e ≡ of_ℤ (pos 0) → joined_derivative s v w x d e ≡ of_ℤ (pos 0)
 joined_zero Plus v w x d e h k = rw (h, k) (ring [] (Whole (pos 0) :+ Whole (pos 0)) (Whole (pos 0)) refl)
 joined_zero Minus v w x d e h k = rw (h, k) (ring [] (Whole (pos 0) :- Whole (pos 0)) (Whole (pos 0)) refl)
@@ -105,7 +98,7 @@ not_used v n (Variable m) h = rw h refl
 not_used v n (Opposite a) h = rw (not_used v n a h) (ring [] (Opposite_of (Whole (pos 0))) (Whole (pos 0)) refl)
 not_used v n (Joined s a b) h =
     joined_is v n s a b
-    ∙ joined_zero s _ _ _ _ _ (not_used v n a (or_left (occurs n a) (occurs n b) h)) (not_used v n b (or_right (occurs n a) (occurs n b) h))
+    ∙ joined_zero s _ _ _ _ _ (not_used v n a (or_parts (occurs n a) (occurs n b) h).0) (not_used v n b (or_parts (occurs n a) (occurs n b) h).1)
 not_used v n (Raised a e) h =
     rw (not_used v n a h) (ring (exact_power_slope (value v (expression_of a)) e ∷ []) (x0 :* Whole (pos 0)) (Whole (pos 0)) refl)
 

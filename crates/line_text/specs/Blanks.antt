@@ -1,8 +1,9 @@
 -- Blanks, which are spaces and tabs.
 use Rattle.std.specs.Prelude.{◌≡◌, ℕ, suc, ◌==◌, ◌&&◌, ◌||◌, Bool, false, cond, List, [], ◌∷◌}
+use Rattle.line_text.specs.Characters.{space, tab}
 
 abbrev pub is_blank : ℕ → Bool
-is_blank byte = byte == 32 || byte == 9
+is_blank byte = byte == space || byte == tab
 
 -- no blank is at the start
 abbrev pub IsTight : List ℕ → Type 0

@@ -1,3 +1,4 @@
+pub mod Characters
 pub mod Memory
 pub mod Blanks
 pub mod Pieces

@@ -2,15 +2,14 @@
 -- out of memory.
 use Rattle.std.specs.Prelude.{◌≡◌, ◌≢◌, Option, Some, None, Result, Ok, Err}
 
--- the call gives what the definition gives, or the fault `memory`
-abbrev pub Gives : {A E : Type 0} → E → Result A E → Result A E → Type 0
-Gives memory (Ok x) wanted = wanted ≡ Ok x
-Gives memory (Err fault) wanted = fault ≢ memory → wanted ≡ Err fault
-
--- the same of an answer that stands for what is defined, by `view`
+-- the call's answer stands, by `view`, for what the definition gives, or is the fault `memory`
 abbrev pub GivesBy : {A B E : Type 0} → (A → B) → E → Result A E → Result B E → Type 0
 GivesBy view memory (Ok x) wanted = wanted ≡ Ok (view x)
 GivesBy view memory (Err fault) wanted = fault ≢ memory → wanted ≡ Err fault
+
+-- the same of an answer that is what the definition gives
+abbrev pub Gives : {A E : Type 0} → E → Result A E → Result A E → Type 0
+Gives = GivesBy (λ x. x)
 
 -- the reply that stands for an answer, by `given` for what the call gives and by `refused` for its refusals; an answer
 -- that is out of memory has none

@@ -1,13 +1,14 @@
 -- The words of a line.
 use Rattle.std.specs.Prelude.{◌≡◌, ℕ, ◌+◌, ◌^◌, ◌<◌, ◌==◌, Bool, not, List, [], ◌∷◌, length, take, drop, Option, None, Some}
 use Rattle.std.specs.List.{prefix_len}
+use Rattle.line_text.specs.Characters.{hash}
 use Rattle.line_text.specs.Blanks.{is_blank, written_len}
 use Rattle.line_text.specs.Pieces.{pieces}
 use Rattle.line_text.specs.declared.words.Word.{Word as CodeWord}
 
 -- a byte before a comment, which begins with the first `#`
 abbrev pub is_no_hash : ℕ → Bool
-is_no_hash byte = not (byte == 35)
+is_no_hash byte = not (byte == hash)
 
 -- the line before its comment
 abbrev pub without_comment : List ℕ → List ℕ

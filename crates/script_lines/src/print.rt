@@ -18,7 +18,7 @@ use sheet_rows::{Row, print_row};
 use std::alloc::Global;
 use std::rc::Rc;
 
-/// The words of a fault, before the row in which it arose.
+/// The words of a fault; the row in which it arose is written after them.
 fn arithmetic_words(fault: &ArithFault) -> &'static [u8]
     ensures { result.now ≡ arithmetic_words fault.now }
 {

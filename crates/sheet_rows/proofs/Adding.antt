@@ -4,31 +4,32 @@ use Rattle.std.specs.Prelude.{bytes_eq}
 use Rattle.std.specs.List.{list_all}
 use Rattle.std.proofs.lemmas.List.{length-append, append-nil}
 use Rattle.std.proofs.lemmas.List.Folds.{list_all-append}
+use Rattle.std.proofs.lemmas.Bool.{and_parts, or_parts, and_from, not-true}
 use Rattle.sheet_rows.specs.Rows.{Row, Sheet, name_of, used_names}
 use Rattle.sheet_rows.specs.declared.edit_fault.EditFault.TheVariants.{RowsFull, Duplicate, Unknown, NotEarlier}
 use Rattle.sheet_rows.specs.Sheets.{IsWellFormed, IsAccepted, is_named, is_among, has_row, is_quantity_in, are_known, are_named_once, are_earlier, row_limit, added, rows_before, unless, unless_uses_fail, first_unknown, first_not_earlier, verdict_add}
-use Rattle.sheet_rows.proofs.Conditions.{ok_same, unless_ok, cond_ok, and_left, and_right, and_both, or_left, or_right, not_true, none_all, all_none, all_more, other_way}
+use Rattle.sheet_rows.proofs.Conditions.{ok_same, unless_ok, cond_ok, none_all, all_none, all_more, other_way}
 use Rattle.sheet_rows.proofs.Verdicts.{below, up_to, quantity_append, with_last, added_has, before_added}
 
 -- ---- names
 once_added : (sheet : List Row) (row : Row) → are_named_once sheet ≡ true → is_among sheet (name_of row) ≡ false → are_named_once (with_last sheet row) ≡ true
 once_added [] row h g = refl
 once_added (r ∷ rs) row h g =
-    let apart : bytes_eq (name_of r) (name_of row) ≡ false = other_way (name_of row) (name_of r) (or_left (is_named (name_of row) r) (is_among rs (name_of row)) g) in
-    let new : is_among rs (name_of r) ≡ false = not_true (is_among rs (name_of r)) (and_left (not (is_among rs (name_of r))) (are_named_once rs) h) in
+    let apart : bytes_eq (name_of r) (name_of row) ≡ false = other_way (name_of row) (name_of r) (or_parts (is_named (name_of row) r) (is_among rs (name_of row)) g).0 in
+    let new : is_among rs (name_of r) ≡ false = not-true (is_among rs (name_of r)) (and_parts (not (is_among rs (name_of r))) (are_named_once rs) h).0 in
     let still : is_among (with_last rs row) (name_of r) ≡ false = added_has rs row (name_of r) ∙ (λ j. new j || apart j) in
-    and_both (not (is_among (with_last rs row) (name_of r))) (are_named_once (with_last rs row)) (ap not still)
-    (once_added rs row (and_right (not (is_among rs (name_of r))) (are_named_once rs) h) (or_right (is_named (name_of row) r) (is_among rs (name_of row)) g))
+    and_from (not (is_among (with_last rs row) (name_of r))) (are_named_once (with_last rs row)) (ap not still)
+    (once_added rs row (and_parts (not (is_among rs (name_of r))) (are_named_once rs) h).1 (or_parts (is_named (name_of row) r) (is_among rs (name_of row)) g).1)
 
 new_from_once : (sheet : List Row) (row : Row) → are_named_once (with_last sheet row) ≡ true → is_among sheet (name_of row) ≡ false
 new_from_once [] row h = refl
 new_from_once (r ∷ rs) row h =
     let none : is_among (with_last rs row) (name_of r) ≡ false =
-    not_true (is_among (with_last rs row) (name_of r)) (and_left (not (is_among (with_last rs row) (name_of r))) (are_named_once (with_last rs row)) h) in
+    not-true (is_among (with_last rs row) (name_of r)) (and_parts (not (is_among (with_last rs row) (name_of r))) (are_named_once (with_last rs row)) h).0 in
     let apart : bytes_eq (name_of r) (name_of row) ≡ false =
-    or_right (is_among rs (name_of r)) (bytes_eq (name_of r) (name_of row)) (sym (added_has rs row (name_of r)) ∙ none) in
+    (or_parts (is_among rs (name_of r)) (bytes_eq (name_of r) (name_of row)) (sym (added_has rs row (name_of r)) ∙ none)).1 in
     let first = other_way (name_of r) (name_of row) apart in
-    let rest = new_from_once rs row (and_right (not (is_among (with_last rs row) (name_of r))) (are_named_once (with_last rs row)) h) in
+    let rest = new_from_once rs row (and_parts (not (is_among (with_last rs row) (name_of r))) (are_named_once (with_last rs row)) h).1 in
     λ j. first j || rest j
 
 -- ---- names used
@@ -67,9 +68,9 @@ module _ (sheet : Sheet) (row : Row) (whole : IsWellFormed sheet) where
     once = once_added before row whole.once new;
     known =
         list_all-append (are_known after) before (row ∷ [])
-        ∙ and_both (list_all (are_known after) before) (are_known after row && true)
-        (all_more (are_known before) (are_known after) (known_added before row) before whole.known) (and_both (are_known after row) true known refl);
-    earlier = earlier_append [] before row ∙ and_both (are_earlier [] before) (are_known before row) whole.earlier earlier;
+        ∙ and_from (list_all (are_known after) before) (are_known after row && true)
+        (all_more (are_known before) (are_known after) (known_added before row) before whole.known) (and_from (are_known after row) true known refl);
+    earlier = earlier_append [] before row ∙ and_from (are_earlier [] before) (are_known before row) whole.earlier earlier;
   }
 
   pub add_accepted : (edited : Sheet) → verdict_add sheet row ≡ Ok edited → IsAccepted edited (added sheet row)
@@ -91,8 +92,8 @@ module _ (sheet : Sheet) (row : Row) (whole : IsWellFormed sheet) where
       let full : nat_le row_limit (length before) ≡ false = below row_limit (length before) (omega (arith, edited.limit, length-append before (row ∷ []))) in
       let new : is_among before (name_of row) ≡ false = new_from_once before row edited.once in
       let both = sym (list_all-append (are_known after) before (row ∷ [])) ∙ edited.known in
-      let known : are_known after row ≡ true = and_left (are_known after row) true (and_right (list_all (are_known after) before) (are_known after row && true) both) in
-      let stands : are_known before row ≡ true = and_right (are_earlier [] before) (are_known before row) (sym (earlier_append [] before row) ∙ edited.earlier) in
+      let known : are_known after row ≡ true = (and_parts (are_known after row) true (and_parts (list_all (are_known after) before) (are_known after row && true) both).1).0 in
+      let stands : are_known before row ≡ true = (and_parts (are_earlier [] before) (are_known before row) (sym (earlier_append [] before row) ∙ edited.earlier)).1 in
       let stood : are_known (rows_before (name_of row) after) row ≡ true = ap (λ rows. are_known rows row) (before_added before row new) ∙ stands in
       let no_unknown = all_none (is_quantity_in after) (used_names row) known in
       let none_later = all_none (is_quantity_in (rows_before (name_of row) after)) (used_names row) stood in

@@ -3,6 +3,7 @@ use Rattle.std.proofs.Common.{◌≡◌, ℕ, Bool, true, false, ◌||◌, ◌&&
 use Rattle.std.specs.Prelude.{find, bytes_eq, is_some}
 use Rattle.std.specs.List.{list_any, list_all}
 use Rattle.std.proofs.lemmas.Slice.Eq.{bytes_eq-Decides}
+use Rattle.std.proofs.lemmas.Bool.{and_parts, and_from}
 use Rattle.sheet_rows.specs.Rows.{Sheet}
 use Rattle.sheet_rows.specs.Sheets.{Verdict, unless}
 use Rattle.sheet_rows.specs.declared.edit_fault.EditFault.{EditFault}
@@ -33,29 +34,6 @@ pub cond_err : (t : Bool) (f : EditFault) (v : Verdict) (e : Sheet) → cond t v
 cond_err true f v e h = (refl, h)
 cond_err false f v e h = absurd (err_ok h)
 
-pub and_left : (a b : Bool) → (a && b) ≡ true → a ≡ true
-and_left true b h = refl
-and_left false b h = absurd (true≢false (sym h))
-
-pub and_right : (a b : Bool) → (a && b) ≡ true → b ≡ true
-and_right true b h = h
-and_right false b h = absurd (true≢false (sym h))
-
-pub and_both : (a b : Bool) → a ≡ true → b ≡ true → (a && b) ≡ true
-and_both a b h g = (λ j. h j && g j)
-
-pub or_left : (a b : Bool) → (a || b) ≡ false → a ≡ false
-or_left true b h = h
-or_left false b h = refl
-
-pub or_right : (a b : Bool) → (a || b) ≡ false → b ≡ false
-or_right true b h = absurd (true≢false h)
-or_right false b h = h
-
-pub not_true : (a : Bool) → not a ≡ true → a ≡ false
-not_true true h = absurd (true≢false (sym h))
-not_true false h = refl
-
 found_none : {X : Type 0} (t : Bool) (x : X) (r : Option X) → cond t (Some x) r ≡ None → (t ≡ false) × (r ≡ None)
 found_none true x r h = absurd (true≢false (ap is_some h))
 found_none false x r h = (refl, h)
@@ -64,7 +42,7 @@ pub none_all : {X : Type 0} (p : X → Bool) (xs : List X) → find (λ x. not (
 none_all p [] h = refl
 none_all p (x ∷ xs) h =
     let both = found_none (not (p x)) x (find (λ y. not (p y)) xs) h in
-    and_both (p x) (list_all p xs) (holds (p x) both.0) (none_all p xs both.1)
+    and_from (p x) (list_all p xs) (holds (p x) both.0) (none_all p xs both.1)
   where
     holds : (b : Bool) → not b ≡ false → b ≡ true
     holds true e = refl
@@ -73,7 +51,7 @@ none_all p (x ∷ xs) h =
 pub all_none : {X : Type 0} (p : X → Bool) (xs : List X) → list_all p xs ≡ true → find (λ x. not (p x)) xs ≡ None
 all_none p [] h = refl
 all_none p (x ∷ xs) h =
-    ap (λ b. cond (not b) (Some x) (find (λ y. not (p y)) xs)) (and_left (p x) (list_all p xs) h) ∙ all_none p xs (and_right (p x) (list_all p xs) h)
+    ap (λ b. cond (not b) (Some x) (find (λ y. not (p y)) xs)) (and_parts (p x) (list_all p xs) h).0 ∙ all_none p xs (and_parts (p x) (list_all p xs) h).1
 
 -- none is found where each does not pass
 pub none_of : {X : Type 0} (p : X → Bool) (xs : List X) → find p xs ≡ None → list_any p xs ≡ false
@@ -84,7 +62,7 @@ none_of p (x ∷ xs) h =
 
 pub all_more : {X : Type 0} (p q : X → Bool) → ((x : X) → p x ≡ true → q x ≡ true) → (xs : List X) → list_all p xs ≡ true → list_all q xs ≡ true
 all_more p q h [] g = refl
-all_more p q h (x ∷ xs) g = and_both (q x) (list_all q xs) (h x (and_left (p x) (list_all p xs) g)) (all_more p q h xs (and_right (p x) (list_all p xs) g))
+all_more p q h (x ∷ xs) g = and_from (q x) (list_all q xs) (h x (and_parts (p x) (list_all p xs) g).0) (all_more p q h xs (and_parts (p x) (list_all p xs) g).1)
 
 other_by : (n m : List ℕ) (t : Bool) → bytes_eq m n ≡ t → bytes_eq n m ≡ false → t ≡ false
 other_by n m false e h = refl

@@ -1,6 +1,6 @@
 -- The bytes of names and numbers: none is a blank, `#` or `=`.
 use Rattle.std.proofs.lemmas.Bool.{and_parts, and_from}
-use Rattle.std.proofs.Common.{◌≡◌, ℕ, zero, suc, ◌+◌, ◌/◌, ◌%◌, ◌^◌, ◌<◌, ◌&&◌, Bool, true, nat_le, List, [], ◌∷◌, ◌++◌, length, refl, ◌∙◌, arith, length-append}
+use Rattle.std.proofs.Common.{◌≡◌, ℕ, zero, suc, ◌+◌, ◌/◌, ◌%◌, ◌^◌, ◌<◌, ◌&&◌, Bool, true, List, [], ◌∷◌, ◌++◌, length, refl, ◌∙◌, arith, length-append}
 use Rattle.std.specs.Prelude.{ℤ, pos, negsuc, unsigned_abs, decimal}
 use Rattle.std.specs.List.{list_all}
 use Rattle.std.specs.Char.{is_ascii_digit}
@@ -61,8 +61,8 @@ runs_plain text all = weaker goes_on_run is_plain run_plain text all
 pub names_plain : (text : List ℕ) → is_plain_name text ≡ true → ArePlain text
 names_plain [] h = refl
 names_plain (byte ∷ bytes) h =
-    let parts = and_parts (begins_name byte) (list_all goes_on_name bytes && nat_le (length bytes) 23) h in
-    let others = and_parts (list_all goes_on_name bytes) (nat_le (length bytes) 23) parts.1 in
+    let parts = and_parts (begins_name byte) _ h in
+    let others = and_parts (list_all goes_on_name bytes) _ parts.1 in
     and_from (is_plain byte) (list_all is_plain bytes) (first_plain byte parts.0) (weaker goes_on_name is_plain name_plain bytes others.0)
 
 pub name_some : (text : List ℕ) → is_plain_name text ≡ true → 0 < length text

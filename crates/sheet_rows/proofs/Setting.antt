@@ -4,10 +4,11 @@ use Rattle.std.specs.Prelude.{bytes_eq, find}
 use Rattle.std.specs.Option.{option_map}
 use Rattle.std.specs.List.{list_all}
 use Rattle.std.proofs.lemmas.List.{append-nil}
+use Rattle.std.proofs.lemmas.Bool.{and_parts, and_from}
 use Rattle.sheet_rows.specs.Rows.{Row, Sheet, name_of, used_names}
 use Rattle.sheet_rows.specs.declared.edit_fault.EditFault.TheVariants.{Unknown, NotEarlier, InUse}
 use Rattle.sheet_rows.specs.Sheets.{Verdict, IsWellFormed, IsAccepted, is_named, is_among, has_row, is_quantity_in, are_known, are_named_once, are_earlier, rows_with, set_row, rows_before, unless, first_unknown, first_not_earlier, is_left_without, verdict_on_set, verdict_set}
-use Rattle.sheet_rows.proofs.Conditions.{ok_same, unless_ok, cond_err, and_left, and_right, and_both, none_all, all_none, all_more}
+use Rattle.sheet_rows.proofs.Conditions.{ok_same, unless_ok, cond_err, none_all, all_none, all_more}
 use Rattle.sheet_rows.proofs.Verdicts.{same_name, named_itself, list_all_agree, quantity_append, set_has, set_quantity, none_left}
 
 -- rows before which the same names stand
@@ -50,23 +51,23 @@ module _ (row : Row) where
       → are_known sheet r ≡ true → list_all (are_known sheet) rs ≡ true → list_all (are_known (rows_with row sheet)) rs' ≡ true
       → list_all (are_known (rows_with row sheet)) (cond t (row ∷ rs) (r ∷ rs')) ≡ true
   known_by sheet true r rs rs' k h g i =
-      and_both (are_known (rows_with row sheet) row) (list_all (are_known (rows_with row sheet)) rs) k
+      and_from (are_known (rows_with row sheet) row) (list_all (are_known (rows_with row sheet)) rs) k
       (all_more (are_known sheet) (are_known (rows_with row sheet)) (λ o m. known_same sheet o ∙ m) rs g)
   known_by sheet false r rs rs' k h g i =
-      and_both (are_known (rows_with row sheet) r) (list_all (are_known (rows_with row sheet)) rs') (known_same sheet r ∙ h) i
+      and_from (are_known (rows_with row sheet) r) (list_all (are_known (rows_with row sheet)) rs') (known_same sheet r ∙ h) i
 
   known_set : (sheet rest : List Row) → are_known (rows_with row sheet) row ≡ true → list_all (are_known sheet) rest ≡ true
       → list_all (are_known (rows_with row sheet)) (rows_with row rest) ≡ true
   known_set sheet [] k h = refl
   known_set sheet (r ∷ rs) k h =
-      let g = and_right (are_known sheet r) (list_all (are_known sheet) rs) h in
-      known_by sheet (is_named own r) r rs (rows_with row rs) k (and_left (are_known sheet r) (list_all (are_known sheet) rs) h) g (known_set sheet rs k g)
+      let g = (and_parts (are_known sheet r) (list_all (are_known sheet) rs) h).1 in
+      known_by sheet (is_named own r) r rs (rows_with row rs) k (and_parts (are_known sheet r) (list_all (are_known sheet) rs) h).0 g (known_set sheet rs k g)
 
   -- the row itself is among those of the edited sheet
   from_by : (p : Row → Bool) (t : Bool) (r : Row) (rs rs' : List Row) → (t || is_among rs own) ≡ true
       → (is_among rs own ≡ true → list_all p rs' ≡ true → p row ≡ true) → list_all p (cond t (row ∷ rs) (r ∷ rs')) ≡ true → p row ≡ true
-  from_by p true r rs rs' there rest h = and_left (p row) (list_all p rs) h
-  from_by p false r rs rs' there rest h = rest there (and_right (p r) (list_all p rs') h)
+  from_by p true r rs rs' there rest h = (and_parts (p row) (list_all p rs) h).0
+  from_by p false r rs rs' there rest h = rest there (and_parts (p r) (list_all p rs') h).1
 
   known_from : (p : Row → Bool) (rest : List Row) → is_among rest own ≡ true → list_all p (rows_with row rest) ≡ true → p row ≡ true
   known_from p [] there h = absurd (true≢false (sym there))
@@ -93,11 +94,11 @@ module _ (row : Row) where
       → are_known (before ++ rows_before own (cond t (row ∷ rs) (r ∷ rows_with row rs))) row ≡ true
       → are_earlier before (cond t (row ∷ rs) (r ∷ rows_with row rs)) ≡ true
   earlier_by before true r rs e h there rest k =
-      and_both (are_known before row) (are_earlier (before ++ row ∷ []) rs) (sym (here before rs) ∙ k)
+      and_from (are_known before row) (are_earlier (before ++ row ∷ []) rs) (sym (here before rs) ∙ k)
       (earlier_same (before ++ row ∷ []) (before ++ r ∷ []) rs (after_same before r (same_name own (name_of r) e))
-      ∙ and_right (are_known before r) (are_earlier (before ++ r ∷ []) rs) h)
+      ∙ (and_parts (are_known before r) (are_earlier (before ++ r ∷ []) rs) h).1)
   earlier_by before false r rs e h there rest k =
-      and_both (are_known before r) (are_earlier (before ++ r ∷ []) (rows_with row rs)) (and_left (are_known before r) (are_earlier (before ++ r ∷ []) rs) h)
+      and_from (are_known before r) (are_earlier (before ++ r ∷ []) (rows_with row rs)) (and_parts (are_known before r) (are_earlier (before ++ r ∷ []) rs) h).0
       (rest there (sym (there_later before (rows_with row rs) r e) ∙ k))
 
   earlier_set : (before rest : List Row) → are_earlier before rest ≡ true → is_among rest own ≡ true
@@ -105,15 +106,15 @@ module _ (row : Row) where
   earlier_set before [] h there k = refl
   earlier_set before (r ∷ rs) h there k =
       earlier_by before (is_named own r) r rs refl h there
-      (earlier_set (before ++ r ∷ []) rs (and_right (are_known before r) (are_earlier (before ++ r ∷ []) rs) h)) k
+      (earlier_set (before ++ r ∷ []) rs (and_parts (are_known before r) (are_earlier (before ++ r ∷ []) rs) h).1) k
 
   stands_by : (before : List Row) (t : Bool) (r : Row) (rs : List Row) → is_named own r ≡ t → (t || is_among rs own) ≡ true
       → (is_among rs own ≡ true → are_earlier (before ++ r ∷ []) (rows_with row rs) ≡ true → are_known ((before ++ r ∷ []) ++ rows_before own (rows_with row rs)) row ≡ true)
       → are_earlier before (cond t (row ∷ rs) (r ∷ rows_with row rs)) ≡ true
       → are_known (before ++ rows_before own (cond t (row ∷ rs) (r ∷ rows_with row rs))) row ≡ true
-  stands_by before true r rs e there rest h = here before rs ∙ and_left (are_known before row) (are_earlier (before ++ row ∷ []) rs) h
+  stands_by before true r rs e there rest h = here before rs ∙ (and_parts (are_known before row) (are_earlier (before ++ row ∷ []) rs) h).0
   stands_by before false r rs e there rest h =
-      there_later before (rows_with row rs) r e ∙ rest there (and_right (are_known before r) (are_earlier (before ++ r ∷ []) (rows_with row rs)) h)
+      there_later before (rows_with row rs) r e ∙ rest there (and_parts (are_known before r) (are_earlier (before ++ r ∷ []) (rows_with row rs)) h).1
 
   stands_from : (before rest : List Row) → is_among rest own ≡ true → are_earlier before (rows_with row rest) ≡ true
       → are_known (before ++ rows_before own (rows_with row rest)) row ≡ true

@@ -12,7 +12,7 @@ use Rattle.sheet_rows.specs.Rows.{Row, Sheet, name_of, used_names, names_used, q
 use Rattle.sheet_rows.specs.Sheets.{Verdict, is_named, is_among, has_row, quantities_in, is_quantity_in, has_quantity, are_known, row_limit, added, rows_with, set_row, rows_without, removed, rows_before, unless, unless_uses_fail, verdict_add, verdict_set, verdict_on_set, is_left_without, is_user_of, verdict_remove, verdict_on_removal}
 use Rattle.sheet_rows.specs.Places.{place_of, is_known_with, stands_before}
 use Rattle.std.proofs.Math.Bool.{or-false}
-use Rattle.sheet_rows.proofs.Conditions.{and_left, and_right, or_left, or_right}
+use Rattle.std.proofs.lemmas.Bool.{and_parts, or_parts}
 use Rattle.sheet_rows.proofs.Positions.{position-any, before-any, IsFirstAt, first_at, within, find_agree, find_distinct}
 
 -- ---- names
@@ -54,8 +54,8 @@ added_known sheet row n = quantity_is_row (with_last sheet.rows row) n ∙ added
 pub before_added : (sheet : List Row) (row : Row) → is_among sheet (name_of row) ≡ false → rows_before (name_of row) (with_last sheet row) ≡ sheet
 before_added [] row h = ap (λ b. cond b [] (row ∷ [])) (named_itself (name_of row))
 before_added (r ∷ rs) row h =
-    ap (λ b. cond b [] (r ∷ rows_before (name_of row) (with_last rs row))) (or_left _ _ h)
-    ∙ ap (λ xs. r ∷ xs) (before_added rs row (or_right (is_named (name_of row) r) _ h))
+    ap (λ b. cond b [] (r ∷ rows_before (name_of row) (with_last rs row))) (or_parts _ _ h).0
+    ∙ ap (λ xs. r ∷ xs) (before_added rs row (or_parts (is_named (name_of row) r) _ h).1)
 
 stands_in : (sheet : Sheet) (at : ℕ) (n : List ℕ) → is_quantity_in (take at sheet.rows) n ≡ stands_before sheet at n
 stands_in sheet at n = quantity_is_row (take at sheet.rows) n ∙ sym (before-any (is_named n) sheet.rows at)
@@ -140,8 +140,8 @@ module _ (sheet : Sheet) (row : Row) where
   none_left_in : (rest : List Row) → list_all (are_known sheet.rows) rest ≡ true → find (is_left_without (set_row row sheet) row) rest ≡ None
   none_left_in [] h = refl
   none_left_in (r ∷ rs) h =
-      ap (λ b. cond b (Some r) (find (is_left_without (set_row row sheet) row) rs)) (known_still r (and_left _ _ h))
-      ∙ none_left_in rs (and_right (are_known sheet.rows r) _ h)
+      ap (λ b. cond b (Some r) (find (is_left_without (set_row row sheet) row) rs)) (known_still r (and_parts _ _ h).0)
+      ∙ none_left_in rs (and_parts (are_known sheet.rows r) _ h).1
 
   itself_not_left : is_left_without (set_row row sheet) row row ≡ false
   itself_not_left = ap (λ b. not b && not (are_known (rows_with row sheet.rows) row)) (named_itself (name_of row))
@@ -155,8 +155,8 @@ module _ (sheet : Sheet) (row : Row) where
   pub none_left : (rest : List Row) → list_all (are_known sheet.rows) rest ≡ true → find (is_left_without (set_row row sheet) row) (rows_with row rest) ≡ None
   none_left [] h = refl
   none_left (r ∷ rs) h =
-      let k = and_right (are_known sheet.rows r) _ h in
-      none_left_by r rs (rows_with row rs) (is_named (name_of row) r) (and_left _ _ h) (none_left_in rs k) (none_left rs k)
+      let k = (and_parts (are_known sheet.rows r) _ h).1 in
+      none_left_by r rs (rows_with row rs) (is_named (name_of row) r) (and_parts _ _ h).0 (none_left_in rs k) (none_left rs k)
 
 pub there_at : (p : Row → Bool) (sheet : List Row) (at : ℕ) → position p sheet ≡ Some at → list_any p sheet ≡ true
 there_at p sheet at h = sym (position-any p sheet) ∙ ap is_some h
@@ -201,7 +201,7 @@ remove_by_users sheet n at place =
 
 pub missing_find : {X : Type 0} (p : X → Bool) (xs : List X) → list_any p xs ≡ false → find p xs ≡ None
 missing_find p [] h = refl
-missing_find p (x ∷ xs) h = ap (λ b. cond b (Some x) (find p xs)) (or_left _ _ h) ∙ missing_find p xs (or_right (p x) _ h)
+missing_find p (x ∷ xs) h = ap (λ b. cond b (Some x) (find p xs)) (or_parts _ _ h).0 ∙ missing_find p xs (or_parts (p x) _ h).1
 
 pub remove_unknown : (sheet : Sheet) (n : List ℕ) → place_of sheet n ≡ None → verdict_remove sheet n ≡ Err (Unknown n)
 remove_unknown sheet n h =

@@ -3,6 +3,7 @@
 -- early, the place is the one after its end.
 use Rattle.std.specs.Prelude.{ℕ, ◌+◌, ◌==◌, ◌||◌, Bool, false, not, if◌then◌else◌, List, [], ◌∷◌, length, take, drop, Result, Ok, Err, bytes_eq, codes}
 use Rattle.std.specs.List.{prefix_len}
+use Rattle.line_text.specs.Characters.{equals_sign}
 use Rattle.decimal18.specs.Bound.{Bound}
 use Rattle.decimal18.specs.Literal.{parsed}
 use Rattle.decimal18.specs.declared.literal.NumFault.{NumFault}
@@ -111,7 +112,7 @@ past_blanks line at = at + prefix_len is_blank (drop at line)
 
 -- a byte that is neither a blank nor `=`
 abbrev pub is_in_name : ℕ → Bool
-is_in_name byte = not (is_blank byte || byte == 61)
+is_in_name byte = not (is_blank byte || byte == equals_sign)
 
 -- the bytes at the start that are neither blank nor `=`
 abbrev pub leading_name : List ℕ → List ℕ
@@ -126,7 +127,7 @@ name_at line at = name_in at (leading_name (drop at line))
 
 abbrev pub begins_equals : List ℕ → Bool
 begins_equals [] = false
-begins_equals (byte ∷ bytes) = byte == 61
+begins_equals (byte ∷ bytes) = byte == equals_sign
 
 -- the place after the `=` at the place `at`
 abbrev pub equals_at : List ℕ → ℕ → Read ℕ

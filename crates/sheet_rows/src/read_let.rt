@@ -1,10 +1,10 @@
 //! A quantity as a function of others: `NAME = FORMULA`, where the blanks round `=` may be missing. The line
 //! has no comment and no last blanks.
 
-ghost use Rattle.std.specs.Prelude.{◌≡◌, ◌+◌, ◌<◌, ◌≤◌, ◌^◌, true, length, drop, take, Ok, Err, IfOk, IfErr};
+ghost use Rattle.std.specs.Prelude.{◌≡◌, ◌+◌, ◌<◌, ◌≤◌, ◌^◌, true, length, drop, take, Ok, Err, IfOk, IfErr, IfSome};
 ghost use Rattle.std.specs.List.{prefix_len};
 ghost use Rattle.line_text.specs.Memory.{GivesBy};
-ghost use Rattle.formula_ast.specs.FaultPlaces.{place_of};
+ghost use Rattle.formula_ast.specs.Refusals.{place_of};
 ghost use Rattle.formula_ast.specs.Names.{is_plain_name};
 ghost use Rattle.formula_ast.specs.Printing.{print};
 ghost use Rattle.formula_ast.specs.Reading.{reading_of};
@@ -93,7 +93,7 @@ fn read_equals(line: &[u8], at: usize) -> Result<usize, RowFault>
 
 /// The fault of a formula that begins at the place `at` of the line.
 fn located(fault: FormulaFault, at: usize) -> RowFault
-    requires { at + place_of fault < 2 ^ 63 }
+    requires { IfSome (place_of fault) (λ k. at + k < 2 ^ 63) }
     ensures { result ≡ formula_fault at fault }
 {
     match fault {

@@ -1,5 +1,4 @@
-use Rattle.std.proofs.Common.{arith, ◌∙◌, ap, sym, ◌-◌, ◌^◌, ◌≡◌, min, ℕ}
-use Rattle.std.specs.Prelude.{ℤ, pos, ◌<ℤ◌, ◌≤ℤ◌}
+use Rattle.std.proofs.Common.{arith, ◌∙◌, ap, ◌-◌, ◌^◌, ◌≡◌, min}
 use Rattle.std.proofs.lemmas.Int.{ints}
 use Rattle.decimal18.proofs.Compared.{both_above, both_below, first_below, second_below}
 use Rattle.decimal18.proofs.order.compare.Goals as goal

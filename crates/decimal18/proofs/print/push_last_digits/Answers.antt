@@ -1,4 +1,4 @@
-use Rattle.std.proofs.Common.{arith, ap, ◌∙◌, sym, ◌≡◌, ◌+◌, ◌-◌, ◌++◌, ◌∷◌, [], subst, ◌/◌, ◌^◌, ◌%◌}
+use Rattle.std.proofs.Common.{arith, ap, ◌∙◌, sym, ◌≡◌, ◌+◌, ◌-◌, ◌++◌, ◌∷◌, []}
 use Rattle.decimal18.specs.Text.{last_digits}
 use Rattle.decimal18.proofs.Printing.{one_more}
 use Rattle.decimal18.proofs.print.push_last_digits.Goals as goal

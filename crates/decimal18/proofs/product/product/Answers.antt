@@ -1,7 +1,7 @@
-use Rattle.std.proofs.Common.{◌∙◌, ap, sym, subst, ◌*◌, ◌+◌, ◌≡◌}
-use Rattle.std.specs.Prelude.{Bool, false, pos}
+use Rattle.std.proofs.Common.{◌∙◌, ap, sym, ◌*◌, ◌+◌}
+use Rattle.std.specs.Prelude.{Bool, pos}
 use Rattle.decimal18.specs.Bound.{scaled, value_of}
-use Rattle.decimal18.specs.Digits.{rounded, signed, signed_ℚ, IsCutOff}
+use Rattle.decimal18.specs.Digits.{rounded, signed, signed_ℚ}
 use Rattle.decimal18.proofs.CutOff.{exact_cut}
 use Rattle.decimal18.proofs.Products.{product_at}
 use Rattle.decimal18.proofs.product.product.Goals as goal

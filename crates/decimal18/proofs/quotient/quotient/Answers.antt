@@ -1,8 +1,8 @@
-use Rattle.std.proofs.Common.{◌∙◌, ◌≡◌, ◌≤◌, ◌<◌, ◌+◌, ◌-◌, ◌^◌, ap, sym, subst, arith, refl, inl, inr}
-use Rattle.std.specs.Prelude.{Bool, ◌⊎◌}
+use Rattle.std.proofs.Common.{◌∙◌, ◌≤◌, ◌<◌, ◌^◌, ap, sym, arith, inl, inr}
+use Rattle.std.specs.Prelude.{Bool}
 use std.Quotient.{cls}
 use Rattle.exact_fraction.specs.Number.{ℚ}
-use Rattle.decimal18.specs.Digits.{rounded, signed, signed_ℚ, differ, IsEnough}
+use Rattle.decimal18.specs.Digits.{rounded, signed, signed_ℚ, differ}
 use Rattle.decimal18.proofs.CutOff.{rounded_none}
 use Rattle.decimal18.proofs.Quotients.{ratio_of, quotient_cut, quotient_at, quotient_large, positive_size}
 use Rattle.decimal18.proofs.quotient.quotient.Goals as goal

@@ -1,5 +1,5 @@
-use Rattle.std.proofs.Common.{arith, ◌<◌, ◌+◌, ◌/◌, ◌^◌}
-use Rattle.decimal18.proofs.Counting.{powers_rise, after_below, counted_below, counted_twice, few_leading}
+use Rattle.std.proofs.Common.{arith, ◌+◌, ◌/◌, ◌^◌}
+use Rattle.decimal18.proofs.Counting.{after_below, counted_below, counted_twice, few_leading}
 use Rattle.decimal18.proofs.round.surplus.Goals as goal
 
 pub returns-then-leading-lt-STEP-clause-below : goal.returns-then-leading-lt-STEP-clause-below

@@ -1,8 +1,7 @@
 use Rattle.std.proofs.Common.{◌∙◌, ap, arith, sym, subst, ◌<◌, ◌*◌, ◌^◌, ◌-◌, ◌≡◌, ◌+◌, ◌≤◌, inr}
 use Rattle.std.proofs.Math.Nat.{mul-le-mul_right}
-use Rattle.std.specs.Prelude.{unsigned_abs, Bool}
-use Rattle.decimal18.specs.Bound.{value_of}
-use Rattle.decimal18.specs.Digits.{rounded, signed, joined, IsPart, IsEnough}
+use Rattle.std.specs.Prelude.{Bool}
+use Rattle.decimal18.specs.Digits.{rounded, signed, joined, IsPart}
 use Rattle.decimal18.proofs.Sums.{far_value, far_cut, far_enough}
 use Rattle.decimal18.proofs.sum.far_sum.Goals as goal
 

@@ -1,5 +1,4 @@
-use Rattle.std.proofs.Common.{◌∙◌, ap, arith, ◌-◌, sym}
-use Rattle.decimal18.specs.Bound.{value_of, scaled}
+use Rattle.std.proofs.Common.{◌∙◌, ap, arith, sym}
 use Rattle.decimal18.specs.Digits.{rounded, signed}
 use Rattle.decimal18.proofs.CutOff.{exact_cut_at}
 use Rattle.decimal18.proofs.Sums.{near_sum}
