@@ -1,18 +1,26 @@
--- How an input's uncertainty is stated, and its variance (JCGM 100:2008, 4.3).
-use Rattle.std.specs.Prelude.{ℕ, Bool, true, false, if◌then◌else◌, Option, Some, Result, Ok, Err, ℤ, pos, negsuc}
-use Rattle.exact_fraction.specs.Number.{ℚ, of_ℤ, ◌*ℚ◌}
-use Rattle.decimal18.specs.Bound.{Bound, IsDecimal, value_of}
-use Rattle.fixed_interval.specs.Interval.{Interval, point_span}
-use Rattle.fixed_interval.specs.Rules.{zero_bound, square_span}
+-- How an input's uncertainty is stated (JCGM 100:2008, 4.3), and with how many degrees of freedom.
+use Rattle.std.specs.Prelude.{ℕ, ◌^◌, ◌==◌, ◌&&◌, ◌||◌, not, nat_le, Bool, true, false, if◌then◌else◌, Result, Ok, Err, ℤ, pos, negsuc, int_le, IsTrue}
+use Rattle.exact_fraction.specs.Fraction.{is_zero_ℤ}
+use Rattle.decimal18.specs.Bound.{Bound, IsDecimal}
 use Rattle.type_b.specs.declared.shape.Shape.{Shape}
-use Rattle.type_b.specs.declared.shape.Shape.TheVariants.{Exact, Std}
+use Rattle.type_b.specs.declared.shape.Shape.TheVariants.{Exact, Std, Exp, Norm, Rect, Tri, Trap, Arcsine}
+use Rattle.type_b.specs.declared.shape.Dof.{Dof}
+use Rattle.type_b.specs.declared.shape.Dof.TheVariants.{Inf, Whole, Rel}
 use Rattle.type_b.specs.declared.shape.ShapeFault.{ShapeFault}
-use Rattle.type_b.specs.declared.shape.ShapeFault.TheVariants.{Negative}
+use Rattle.type_b.specs.declared.shape.ShapeFault.TheVariants.{Negative, ZeroK, Beta, Level}
 
 -- its numbers are bounds in canonical form
 abbrev pub HasDecimals : Shape → Type 0
 HasDecimals Exact = Unit {0}
 HasDecimals (Std u) = IsDecimal u
+HasDecimals (Exp expanded k) = IsDecimal expanded × IsDecimal k
+HasDecimals (Norm half level) = IsDecimal half
+HasDecimals (Rect half) = IsDecimal half
+HasDecimals (Tri half) = IsDecimal half
+HasDecimals (Trap half beta) = IsDecimal half × IsDecimal beta
+HasDecimals (Arcsine half) = IsDecimal half
+
+-- ---- numbers, told by their digits; what this says of their values is proved in `src/laws.rt`
 
 -- a number below 0 has a negative coefficient
 abbrev pub below_zero : ℤ → Bool
@@ -22,22 +30,85 @@ below_zero (negsuc n) = true
 abbrev pub is_negative : Bound → Bool
 is_negative b = below_zero b.coefficient
 
--- a standard uncertainty is not negative
+-- 0 is the number with the coefficient 0
+abbrev pub is_zero : Bound → Bool
+is_zero b = is_zero_ℤ b.coefficient
+
+-- a number above 1 has a coefficient that is not at most the power of ten by which it is divided
+abbrev pub is_above_one : Bound → Bool
+is_above_one b = not (int_le b.coefficient (pos (10 ^ b.places)))
+
+-- ---- when a shape states an uncertainty: these rules are this project's own
+
+-- an uncertainty, a half-width or a coverage factor is below 0
+abbrev pub has_negative : Shape → Bool
+has_negative Exact = false
+has_negative (Std u) = is_negative u
+has_negative (Exp expanded k) = is_negative expanded || is_negative k
+has_negative (Norm half level) = is_negative half
+has_negative (Rect half) = is_negative half
+has_negative (Tri half) = is_negative half
+has_negative (Trap half beta) = is_negative half
+has_negative (Arcsine half) = is_negative half
+
+-- the coverage factor is 0
+abbrev pub has_zero_factor : Shape → Bool
+has_zero_factor Exact = false
+has_zero_factor (Std u) = false
+has_zero_factor (Exp expanded k) = is_zero k
+has_zero_factor (Norm half level) = false
+has_zero_factor (Rect half) = false
+has_zero_factor (Tri half) = false
+has_zero_factor (Trap half beta) = false
+has_zero_factor (Arcsine half) = false
+
+-- the top of a trapezoid is no share of its base from 0 to 1
+abbrev pub has_wrong_beta : Shape → Bool
+has_wrong_beta Exact = false
+has_wrong_beta (Std u) = false
+has_wrong_beta (Exp expanded k) = false
+has_wrong_beta (Norm half level) = false
+has_wrong_beta (Rect half) = false
+has_wrong_beta (Tri half) = false
+has_wrong_beta (Trap half beta) = is_negative beta || is_above_one beta
+has_wrong_beta (Arcsine half) = false
+
+-- the levels of confidence, in percent, for which a normal distribution's factor is stated (4.3.4)
+abbrev pub is_level : ℕ → Bool
+is_level level = level == 90 || (level == 95 || level == 99)
+
+abbrev pub has_other_level : Shape → Bool
+has_other_level Exact = false
+has_other_level (Std u) = false
+has_other_level (Exp expanded k) = false
+has_other_level (Norm half level) = not (is_level level)
+has_other_level (Rect half) = false
+has_other_level (Tri half) = false
+has_other_level (Trap half beta) = false
+has_other_level (Arcsine half) = false
+
+-- the first rule that a shape breaks
 abbrev pub checked : Shape → Result Unit ShapeFault
-checked Exact = Ok (record {})
-checked (Std u) = if is_negative u then Err Negative else Ok (record {})
+checked s =
+    if has_negative s then Err Negative
+    else (if has_zero_factor s then Err ZeroK
+    else (if has_wrong_beta s then Err Beta
+    else (if has_other_level s then Err Level else Ok (record {}))))
 
--- the variance: the square of the standard uncertainty (4.1.5, 4.2.3), and 0 where there is none
-abbrev pub variance_of : Shape → ℚ
-variance_of Exact = of_ℤ (pos 0)
-variance_of (Std u) = value_of u *ℚ value_of u
+-- ---- degrees of freedom: the limits are this project's own
 
--- the span of the variance, where it is in the range of bounds
-abbrev pub variance_span : Shape → Option Interval
-variance_span Exact = Some (point_span zero_bound)
-variance_span (Std u) = square_span (point_span u)
+abbrev pub most_degrees : ℕ
+most_degrees = 1000000
 
--- how many spans are made for it
-abbrev pub steps_of_variance : Shape → ℕ
-steps_of_variance Exact = 1
-steps_of_variance (Std u) = 2
+abbrev pub most_percent : ℕ
+most_percent = 70
+
+-- whether an input may have these degrees of freedom
+abbrev pub are_degrees : Dof → Bool
+are_degrees Inf = true
+are_degrees (Whole n) = nat_le 1 n && nat_le n most_degrees
+are_degrees (Rel p) = nat_le 1 p && nat_le p most_percent
+
+-- the same as a fact
+abbrev pub IsDegrees : Dof → Type 0
+IsDegrees dof = IsTrue (are_degrees dof)

@@ -1,12 +1,10 @@
-//! The uncertainty that an input is stated with, and its variance (JCGM 100:2008, 4.3).
+//! The uncertainty that an input is stated with, and its degrees of freedom (JCGM 100:2008, 4.3, G.4.2).
 #![tactic(auto)]
 
 mod laws;
 mod shape;
 #[cfg(test)]
 mod tests;
-mod variances;
 
-pub use laws::negative_is_below_zero;
-pub use shape::{Dof, Shape, ShapeFault, check};
-pub use variances::variance;
+pub use laws::tests_tell_values;
+pub use shape::{Dof, MOST_DEGREES, MOST_PERCENT, Shape, ShapeFault, are_degrees, check};
