@@ -1,1 +1,3 @@
+mod Enclosed
+mod Quotients
 mod Signs

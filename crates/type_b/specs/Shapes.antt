@@ -1,6 +1,7 @@
 -- How an input's uncertainty is stated (JCGM 100:2008, 4.3), and with how many degrees of freedom.
-use Rattle.std.specs.Prelude.{ℕ, ◌^◌, ◌==◌, ◌&&◌, ◌||◌, not, nat_le, Bool, true, false, if◌then◌else◌, Result, Ok, Err, ℤ, pos, negsuc, int_le, IsTrue}
+use Rattle.std.specs.Prelude.{ℕ, ◌*◌, ◌^◌, ◌==◌, ◌&&◌, ◌||◌, not, nat_le, Bool, true, false, if◌then◌else◌, Result, Ok, Err, ℤ, pos, negsuc, int_le, IsTrue}
 use Rattle.exact_fraction.specs.Fraction.{is_zero_ℤ}
+use Rattle.exact_fraction.specs.Number.{ℚ, of_ℤ, ◌/ℚ◌}
 use Rattle.decimal18.specs.Bound.{Bound, IsDecimal}
 use Rattle.type_b.specs.declared.shape.Shape.{Shape}
 use Rattle.type_b.specs.declared.shape.Shape.TheVariants.{Exact, Std, Exp, Norm, Rect, Tri, Trap, Arcsine}
@@ -112,3 +113,10 @@ are_degrees (Rel p) = nat_le 1 p && nat_le p most_percent
 -- the same as a fact
 abbrev pub IsDegrees : Dof → Type 0
 IsDegrees dof = IsTrue (are_degrees dof)
+
+-- 1/ν, which is 0 for infinite degrees. An uncertainty that is itself uncertain by p percent has
+-- ν = 1/2 (p / 100)^-2 = 5000 / p² (G.4.2, formula G.3)
+abbrev pub inverse_degrees : Dof → ℚ
+inverse_degrees Inf = of_ℤ (pos 0)
+inverse_degrees (Whole n) = of_ℤ (pos 1) /ℚ of_ℤ (pos n)
+inverse_degrees (Rel p) = of_ℤ (pos (p * p)) /ℚ of_ℤ (pos 5000)
