@@ -1,11 +1,11 @@
 -- The spans of a variance and of a standard deviation enclose them.
-use Rattle.std.specs.Prelude.{◌≡◌, ◌==◌, ◌||◌, IfOk, Bool, true, false, not, cond, Option, Some, None, Result, Ok, Err, ℕ, pos, refl}
+use Rattle.std.specs.Prelude.{◌≡◌, ◌==◌, ◌||◌, IfOk, Bool, true, false, cond, Option, Some, None, Result, Ok, Err, ℕ, pos, refl}
 use Rattle.std.specs.Option.{ok_or}
 use Rattle.std.proofs.Common.{subst}
-use Rattle.exact_fraction.specs.Number.{ℚ, of_ℤ, ◌+ℚ◌, ◌*ℚ◌, ◌/ℚ◌}
+use Rattle.exact_fraction.specs.Number.{ℚ, of_ℤ, ◌+ℚ◌, ◌/ℚ◌}
 use Rattle.decimal18.specs.Bound.{Bound, scaled, value_of}
 use Rattle.decimal18.proofs.Values.{value-whole}
-use Rattle.fixed_interval.specs.Interval.{Interval, Encloses, point_span, sum_span}
+use Rattle.fixed_interval.specs.Interval.{Interval, Encloses, point_span}
 use Rattle.fixed_interval.specs.Rules.{square_span, one_bound, product_span}
 use Rattle.fixed_interval.specs.Powers.{then_span}
 use Rattle.fixed_interval.specs.Sums.{Holds, both}
@@ -17,7 +17,7 @@ use Rattle.type_b.specs.declared.shape.Shape.{Shape}
 use Rattle.type_b.specs.declared.shape.Shape.TheVariants.{Exact, Std, Exp, Norm, Rect, Tri, Trap, Arcsine}
 use Rattle.type_b.specs.declared.shape.ShapeFault.{ShapeFault}
 use Rattle.type_b.specs.declared.shape.ShapeFault.TheVariants.{Negative, ZeroK}
-use Rattle.type_b.specs.Shapes.{checked, is_negative, is_zero, is_level}
+use Rattle.type_b.specs.Shapes.{checked, is_negative, is_zero}
 use Rattle.type_b.specs.Variances.{normal_factor, square, square_of, divided, one_and_square_of, deviation_of, deviation_span, variance_of, variance_span}
 use Rattle.type_b.proofs.Quotients.{quotient_holds}
 

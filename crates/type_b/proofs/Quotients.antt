@@ -1,9 +1,9 @@
 -- Quotients by a number that is not 0.
-use Rattle.std.specs.Prelude.{◌≡◌, ◌&&◌, Bool, true, false, not, Option, Some, None, Result, Ok, Err, IfOk, IsErrAnd, MatchResult, pos, refl}
+use Rattle.std.specs.Prelude.{◌≡◌, ◌&&◌, Bool, true, false, Option, Some, None, Result, Ok, Err, IfOk, IsErrAnd, MatchResult, pos, refl}
 use Rattle.std.specs.Option.{ok_or}
-use Rattle.std.proofs.Common.{sym, ap, ◌∙◌}
+use Rattle.std.proofs.Common.{sym, ◌∙◌}
 use Rattle.std.proofs.lemmas.Bool.{true≢false}
-use Rattle.exact_fraction.specs.Number.{ℚ, of_ℤ, is_at_most_ℚ, is_zero_ℚ, ◌/ℚ◌}
+use Rattle.exact_fraction.specs.Number.{ℚ, of_ℤ, is_at_most_ℚ, ◌/ℚ◌}
 use Rattle.exact_fraction.specs.NumberLaws.{≤ℚ_antisym}
 use Rattle.exact_fraction.proofs.Quotients.{≡-is_zero_ℚ}
 use Rattle.decimal18.specs.Bound.{Bound, value_of}

@@ -54,39 +54,21 @@ has_negative (Arcsine half) = is_negative half
 
 -- the coverage factor is 0
 abbrev pub has_zero_factor : Shape → Bool
-has_zero_factor Exact = false
-has_zero_factor (Std u) = false
 has_zero_factor (Exp expanded k) = is_zero k
-has_zero_factor (Norm half level) = false
-has_zero_factor (Rect half) = false
-has_zero_factor (Tri half) = false
-has_zero_factor (Trap half beta) = false
-has_zero_factor (Arcsine half) = false
+has_zero_factor _ = false
 
 -- the top of a trapezoid is no share of its base from 0 to 1
 abbrev pub has_wrong_beta : Shape → Bool
-has_wrong_beta Exact = false
-has_wrong_beta (Std u) = false
-has_wrong_beta (Exp expanded k) = false
-has_wrong_beta (Norm half level) = false
-has_wrong_beta (Rect half) = false
-has_wrong_beta (Tri half) = false
 has_wrong_beta (Trap half beta) = is_negative beta || is_above_one beta
-has_wrong_beta (Arcsine half) = false
+has_wrong_beta _ = false
 
 -- the levels of confidence, in percent, for which a normal distribution's factor is stated (4.3.4)
 abbrev pub is_level : ℕ → Bool
 is_level level = level == 90 || (level == 95 || level == 99)
 
 abbrev pub has_other_level : Shape → Bool
-has_other_level Exact = false
-has_other_level (Std u) = false
-has_other_level (Exp expanded k) = false
 has_other_level (Norm half level) = not (is_level level)
-has_other_level (Rect half) = false
-has_other_level (Tri half) = false
-has_other_level (Trap half beta) = false
-has_other_level (Arcsine half) = false
+has_other_level _ = false
 
 -- the first rule that a shape breaks
 abbrev pub checked : Shape → Result Unit ShapeFault

@@ -1,5 +1,5 @@
 -- The variance of an input by how its uncertainty is stated (JCGM 100:2008, 4.3), exactly and as a span.
-use Rattle.std.specs.Prelude.{ℕ, ◌==◌, Bool, true, false, if◌then◌else◌, Option, Some, None, ℤ, pos}
+use Rattle.std.specs.Prelude.{ℕ, ◌==◌, Bool, true, false, if◌then◌else◌, Option, Some, None, pos}
 use Rattle.exact_fraction.specs.Number.{ℚ, of_ℤ, ◌+ℚ◌, ◌*ℚ◌, ◌/ℚ◌}
 use Rattle.decimal18.specs.Bound.{Bound, scaled, value_of}
 use Rattle.fixed_interval.specs.Interval.{Interval, point_span, sum_span}
@@ -34,25 +34,17 @@ variance_of (Arcsine half) = square (value_of half) /ℚ of_ℤ (pos 2)
 
 -- the shape states the standard deviation, by a number or by the quotient of two
 abbrev pub states_deviation : Shape → Bool
-states_deviation Exact = false
 states_deviation (Std u) = true
 states_deviation (Exp expanded k) = true
 states_deviation (Norm half level) = true
-states_deviation (Rect half) = false
-states_deviation (Tri half) = false
-states_deviation (Trap half beta) = false
-states_deviation (Arcsine half) = false
+states_deviation _ = false
 
 -- the standard deviation that is stated (4.3.3, 4.3.4); where none is, this is 0, and means nothing
 abbrev pub deviation_of : Shape → ℚ
-deviation_of Exact = of_ℤ (pos 0)
 deviation_of (Std u) = value_of u
 deviation_of (Exp expanded k) = value_of expanded /ℚ value_of k
 deviation_of (Norm half level) = value_of half /ℚ value_of (normal_factor level)
-deviation_of (Rect half) = of_ℤ (pos 0)
-deviation_of (Tri half) = of_ℤ (pos 0)
-deviation_of (Trap half beta) = of_ℤ (pos 0)
-deviation_of (Arcsine half) = of_ℤ (pos 0)
+deviation_of _ = of_ℤ (pos 0)
 
 -- ---- spans; the operations stand in this order, and the first that leaves the range of bounds leaves none
 abbrev pub square_of : Bound → Option Interval
@@ -64,14 +56,10 @@ divided s b = then_span s (λ a. quotient_span a (point_span b))
 
 -- the span of the standard deviation that is stated
 abbrev pub deviation_span : Shape → Option Interval
-deviation_span Exact = None
 deviation_span (Std u) = Some (point_span u)
 deviation_span (Exp expanded k) = divided (Some (point_span expanded)) k
 deviation_span (Norm half level) = divided (Some (point_span half)) (normal_factor level)
-deviation_span (Rect half) = None
-deviation_span (Tri half) = None
-deviation_span (Trap half beta) = None
-deviation_span (Arcsine half) = None
+deviation_span _ = None
 
 -- the span of the sums of 1 and a square
 abbrev pub one_and_square_of : Bound → Option Interval
@@ -90,14 +78,10 @@ variance_span (Arcsine half) = divided (square_of half) (scaled (pos 2) 0)
 
 -- ---- how many spans are made, points included
 abbrev pub steps_of_deviation : Shape → ℕ
-steps_of_deviation Exact = 0
 steps_of_deviation (Std u) = 1
 steps_of_deviation (Exp expanded k) = 3
 steps_of_deviation (Norm half level) = 3
-steps_of_deviation (Rect half) = 0
-steps_of_deviation (Tri half) = 0
-steps_of_deviation (Trap half beta) = 0
-steps_of_deviation (Arcsine half) = 0
+steps_of_deviation _ = 0
 
 abbrev pub steps_of_variance : Shape → ℕ
 steps_of_variance Exact = 1

@@ -1,9 +1,9 @@
-ghost use Rattle.std.specs.Prelude.{◌≡◌, not, pos, true, false, ◌*◌, Some, None, ℕ, ◌∷◌};
+ghost use Rattle.std.specs.Prelude.{◌≡◌, not, pos, true, Some, None, ℕ};
 ghost use Rattle.exact_fraction.specs.Number.{is_at_most_ℚ, is_zero_ℚ, of_ℤ, ◌/ℚ◌, ◌*ℚ◌};
 ghost use Rattle.decimal18.specs.Bound.{Bound, scaled, value_of};
 ghost use Rattle.fixed_interval.specs.Interval.{point_span};
 ghost use Rattle.type_b.specs.Shapes.{inverse_degrees, is_above_one, is_negative, is_zero};
-ghost use Rattle.type_b.specs.Variances.{deviation_of, states_deviation, steps_of_variance, steps_of_deviation, variance_of, variance_span};
+ghost use Rattle.type_b.specs.Variances.{deviation_of, states_deviation, variance_of, variance_span};
 ghost use Rattle.type_b.specs.declared.shape.Dof.TheVariants.{Inf, Whole, Rel};
 ghost use Rattle.type_b.specs.declared.shape.Shape.{Shape};
 ghost use Rattle.type_b.specs.declared.shape.Shape.TheVariants.{Exact, Std, Exp, Norm, Rect, Tri, Trap, Arcsine};
@@ -18,6 +18,16 @@ pub fn tests_tell_values()
 /// Where a shape states a standard deviation, the variance is its square.
 pub fn variance_is_the_square_of_the_deviation()
     ensures { (s : Shape) → states_deviation s ≡ true → variance_of s ≡ deviation_of s *ℚ deviation_of s }
+{}
+
+/// Which shapes state a standard deviation, and worked ones.
+pub fn worked_deviations()
+    ensures number { (u : Bound) → states_deviation (Std u) ≡ true }
+    ensures quotient { (expanded k : Bound) → states_deviation (Exp expanded k) ≡ true }
+    ensures level { (half : Bound) (level : ℕ) → states_deviation (Norm half level) ≡ true }
+    ensures standard { deviation_of (Std (scaled (pos 3) 0)) ≡ of_ℤ (pos 3) }
+    ensures expanded { deviation_of (Exp (scaled (pos 5) 2) (scaled (pos 2) 0)) ≡ value_of (scaled (pos 25) 3) }
+    ensures normal { deviation_of (Norm (scaled (pos 49) 1) 95) ≡ value_of (scaled (pos 25) 1) }
 {}
 
 /// The variances of worked shapes. A trapezoid without a top is a triangle, and one with a top as wide as

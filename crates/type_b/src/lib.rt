@@ -10,8 +10,8 @@ mod tests;
 mod variances;
 
 pub use laws::{
-    tests_tell_values, variance_is_the_square_of_the_deviation, worked_degrees, worked_spans,
-    worked_variances,
+    tests_tell_values, variance_is_the_square_of_the_deviation, worked_degrees, worked_deviations,
+    worked_spans, worked_variances,
 };
 pub use shape::{Dof, MOST_DEGREES, MOST_PERCENT, Shape, ShapeFault, are_degrees, check};
-pub use variances::{deviation, variance};
+pub use variances::{deviation, states_deviation, variance};

@@ -49,6 +49,16 @@ fn trapezoid<L: Ledger>(half: Dec, beta: Dec, steps: &mut Steps<L>) -> Result<Sp
     divided(&product, Dec::whole(6), steps)
 }
 
+/// Whether the shape states the standard deviation, by a number or by the quotient of two.
+pub fn states_deviation(shape: &Shape) -> bool
+    ensures { result ≡ states_deviation shape.now }
+{
+    matches!(
+        shape,
+        Shape::Std { .. } | Shape::Exp { .. } | Shape::Norm { .. }
+    )
+}
+
 /// The span of the standard deviation that is stated, in the unit of the estimate: `u`, the expanded
 /// uncertainty over its coverage factor, or the half-width over the normal distribution's factor (JCGM
 /// 100:2008, 4.3.3, 4.3.4).
