@@ -83,6 +83,7 @@ checked s =
 abbrev pub most_degrees : ℕ
 most_degrees = 1000000
 
+-- by 71 percent there would be less than one degree
 abbrev pub most_percent : ℕ
 most_percent = 70
 

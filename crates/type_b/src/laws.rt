@@ -8,8 +8,8 @@ ghost use Rattle.type_b.specs.declared.shape.Dof.TheVariants.{Inf, Whole, Rel};
 ghost use Rattle.type_b.specs.declared.shape.Shape.{Shape};
 ghost use Rattle.type_b.specs.declared.shape.Shape.TheVariants.{Exact, Std, Exp, Norm, Rect, Tri, Trap, Arcsine};
 
-/// The tests by digits tell the numbers below 0, the number 0, and the numbers above 1.
-pub fn tests_tell_values()
+/// What the tests of digits tell: the numbers below 0, the number 0, and the numbers above 1.
+pub fn digits_tell_values()
     ensures negative { (b : Bound) → is_negative b ≡ not (is_at_most_ℚ (of_ℤ (pos 0)) (value_of b)) }
     ensures zero { (b : Bound) → is_zero b ≡ is_zero_ℚ (value_of b) }
     ensures above_one { (b : Bound) → is_above_one b ≡ not (is_at_most_ℚ (value_of b) (of_ℤ (pos 1))) }
@@ -63,11 +63,12 @@ pub fn worked_spans()
     ensures beyond { variance_span (Rect (scaled (pos 1000000000) 0)) ≡ None }
 {}
 
-/// 1/ν of worked degrees of freedom, and of those of an uncertainty that is uncertain by so many percent
-/// (JCGM 100:2008, G.4.2, formula G.3).
+/// Degrees of freedom ν of worked cases, by 1/ν: by the most percent that is taken there is just more than
+/// one degree. For p percent 1/ν is 2 (p / 100)² (JCGM 100:2008, G.4.2, formula G.3).
 pub fn worked_degrees()
     ensures infinite { inverse_degrees Inf ≡ of_ℤ (pos 0) }
     ensures whole { of_ℤ (pos 1) /ℚ inverse_degrees (Whole 12) ≡ of_ℤ (pos 12) }
     ensures quarter { of_ℤ (pos 1) /ℚ inverse_degrees (Rel 25) ≡ of_ℤ (pos 8) }
+    ensures most { inverse_degrees (Rel 70) ≡ value_of (scaled (pos 98) 2) }
     ensures relative { (p : ℕ) → inverse_degrees (Rel p) ≡ of_ℤ (pos 2) *ℚ ((of_ℤ (pos p) /ℚ of_ℤ (pos 100)) *ℚ (of_ℤ (pos p) /ℚ of_ℤ (pos 100))) }
 {}

@@ -10,7 +10,7 @@ mod tests;
 mod variances;
 
 pub use laws::{
-    tests_tell_values, variance_is_the_square_of_the_deviation, worked_degrees, worked_deviations,
+    digits_tell_values, variance_is_the_square_of_the_deviation, worked_degrees, worked_deviations,
     worked_spans, worked_variances,
 };
 pub use shape::{Dof, MOST_DEGREES, MOST_PERCENT, Shape, ShapeFault, are_degrees, check};

@@ -1,5 +1,5 @@
 ghost use Rattle.std.specs.Prelude.{◌≡◌, true};
-ghost use Rattle.type_b.specs.Shapes.{is_level, is_zero};
+ghost use Rattle.type_b.specs.Shapes.{is_level};
 ghost use Rattle.type_b.specs.Variances.{normal_factor};
 
 use decimal18::Dec;

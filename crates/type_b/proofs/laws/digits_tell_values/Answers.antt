@@ -1,5 +1,5 @@
 use Rattle.type_b.proofs.Signs.{negative_below_zero, zero_is_zero, above_one}
-use Rattle.type_b.proofs.laws.tests_tell_values.Goals as goal
+use Rattle.type_b.proofs.laws.digits_tell_values.Goals as goal
 
 pub returns-clause-negative : goal.returns-clause-negative
 returns-clause-negative c = negative_below_zero
