@@ -1,6 +1,6 @@
 -- What a line gives as a row is never out of memory.
-use Rattle.std.proofs.Common.{◌≡◌, ◌≢◌, ℕ, Bool, true, false, cond, List, [], ◌∷◌, ◌+◌, length, drop, Result, Ok, Err, IfErr, refl, subst}
-use Rattle.std.specs.Prelude.{codes, bytes_eq}
+use Rattle.std.proofs.Common.{◌≡◌, ◌≢◌, ℕ, Bool, true, false, cond, List, [], ◌∷◌, ◌+◌, length, drop, Result, Option, None, Some, Ok, Err, IfErr, refl, subst}
+use Rattle.std.specs.Prelude.{codes, bytes_eq, if◌then◌else◌}
 use Rattle.decimal18.specs.Bound.{Bound}
 use Rattle.decimal18.specs.Literal.{parsed}
 use Rattle.decimal18.specs.declared.literal.NumFault.{NumFault}
@@ -14,10 +14,18 @@ use Rattle.formula_ast.proofs.NoMemory.{never_memory as formula_never}
 use Rattle.line_text.specs.Words.{Word, written_part, words_from}
 use Rattle.type_b.specs.Shapes.{checked}
 use Rattle.type_b.specs.declared.shape.ShapeFault.{ShapeFault}
-use Rattle.sheet_rows.specs.Reading.{Read, then_read, plain_word, number_in, number_word, is_other_shape, is_degrees_word, is_other_kind, other_word, std_shape, shape_word, ended, shape_checked, given_of, past_blanks, leading_name, name_at, begins_equals, equals_at, formula_fault, formula_in, formula_at, let_of, row_at, row_read}
+use Rattle.type_b.specs.declared.shape.ShapeFault.TheVariants.{Negative as NegativeShape, ZeroK as ZeroFactor, Beta as OtherBeta, Level as OtherLevel}
+use Rattle.type_b.specs.declared.shape.Shape.{Shape}
+use Rattle.type_b.specs.declared.shape.Shape.TheVariants.{Std, Exp, Norm, Rect, Tri, Trap, Arcsine}
+use Rattle.type_b.specs.declared.shape.Dof.{Dof}
+use Rattle.sheet_rows.specs.Parts.{Read, then_read, any_word, plain_word, number_in, number_word, ended}
+use Rattle.sheet_rows.specs.Givens.{kind_of, level_of, with_number, with_numbers, with_level, shape_of_kind, shape_named, shape_word, dof_of, rel_of, degrees_word, shape_checked, degrees_checked, given_of}
+use Rattle.sheet_rows.specs.Reading.{is_other_kind, past_blanks, leading_name, name_at, begins_equals, equals_at, formula_fault, formula_in, formula_at, let_of, row_at, row_read}
+use Rattle.sheet_rows.specs.declared.read_shape.ShapeKind.{ShapeKind}
+use Rattle.sheet_rows.specs.declared.read_shape.ShapeKind.TheVariants.{Exact as ExactKind, Std as StdKind, Exp as ExpKind, Norm as NormKind, Rect as RectKind, Tri as TriKind, Trap as TrapKind, Arcsine as ArcsineKind}
 use Rattle.sheet_rows.specs.declared.row.Row.{Row as CodeRow}
 use Rattle.sheet_rows.specs.declared.fault.RowFault.{RowFault}
-use Rattle.sheet_rows.specs.declared.fault.RowFault.TheVariants.{Syntax, NotNumber, NumberRange, UnknownFunction, BadPower, TooDeep, TooManyNodes, Negative, NotBuilt, OutOfMemory}
+use Rattle.sheet_rows.specs.declared.fault.RowFault.TheVariants.{Syntax, NotNumber, NumberRange, UnknownFunction, BadPower, TooDeep, TooManyNodes, Negative, ZeroK, Beta, Level, DofRange, NotBuilt, OutOfMemory}
 
 abbrev IsNoMemory : RowFault → Type 0
 IsNoMemory OutOfMemory = ⊥
@@ -29,6 +37,10 @@ IsNoMemory (BadPower at) = Unit {0}
 IsNoMemory (TooDeep at) = Unit {0}
 IsNoMemory (TooManyNodes at) = Unit {0}
 IsNoMemory Negative = Unit {0}
+IsNoMemory ZeroK = Unit {0}
+IsNoMemory Beta = Unit {0}
+IsNoMemory Level = Unit {0}
+IsNoMemory DofRange = Unit {0}
 IsNoMemory NotBuilt = Unit {0}
 
 abbrev IfFailed : {A : Type 0} → Read A → Type 0
@@ -43,10 +55,6 @@ cond_failed : {A : Type 0} (t : Bool) (a b : Read A) → IfFailed a → IfFailed
 cond_failed true a b h k = h
 cond_failed false a b h k = k
 
-other_failed : (t : Bool) (place : ℕ) → IsNoMemory (other_word t place)
-other_failed true place = tt
-other_failed false place = tt
-
 plain_failed : (end : ℕ) (ws : List Word) → IfFailed (plain_word end ws)
 plain_failed end [] = tt
 plain_failed end (w ∷ ws) = cond_failed (is_plain_name w.text) _ (Err (Syntax (w.place + 1))) tt tt
@@ -60,28 +68,72 @@ number_failed : (end : ℕ) (ws : List Word) → IfFailed (number_word end ws)
 number_failed end [] = tt
 number_failed end (w ∷ ws) = number_in_failed w ws (parsed w.text)
 
-shape_failed : (end : ℕ) (ws : List Word) → IfFailed (shape_word end ws)
-shape_failed end [] = tt
-shape_failed end (w ∷ ws) =
-    cond_failed (bytes_eq w.text (codes "exact")) _ _ tt
-    (cond_failed (bytes_eq w.text (codes "std")) (then_read (number_word end ws) std_shape) (Err (other_word (is_other_shape w.text) w.place))
-    (then_failed (number_word end ws) std_shape (number_failed end ws) (λ u. tt)) (other_failed (is_other_shape w.text) w.place))
+word_failed : {A : Type 0} (meaning : List ℕ → A) (end : ℕ) (ws : List Word) → IfFailed (any_word meaning end ws)
+word_failed meaning end [] = tt
+word_failed meaning end (w ∷ ws) = tt
 
 ended_failed : (ws : List Word) → IfFailed (ended ws)
 ended_failed [] = tt
-ended_failed (w ∷ ws) = other_failed (is_degrees_word w.text) w.place
+ended_failed (w ∷ ws) = tt
+
+-- ---- inputs
+one_failed : (make : Bound → Shape) (end : ℕ) (ws : List Word) → IfFailed (with_number make end ws)
+one_failed make end ws = then_failed (number_word end ws) (λ a. Ok (record { item = make a.item; rest = a.rest })) (number_failed end ws) (λ a. tt)
+
+two_failed : (make : Bound → Bound → Shape) (end : ℕ) (ws : List Word) → IfFailed (with_numbers make end ws)
+two_failed make end ws =
+    then_failed (number_word end ws) (λ a. with_number (make a.item) end a.rest) (number_failed end ws) (λ a. one_failed (make a.item) end a.rest)
+
+level_failed : (make : Bound → ℕ → Shape) (end : ℕ) (ws : List Word) → IfFailed (with_level make end ws)
+level_failed make end ws =
+    then_failed (number_word end ws) _ (number_failed end ws) (λ a.
+    then_failed (any_word level_of end a.rest) (λ level. Ok (record { item = make a.item level.item; rest = level.rest }))
+    (word_failed level_of end a.rest) (λ level. tt))
+
+kind_failed : (kind : ShapeKind) (end : ℕ) (ws : List Word) → IfFailed (shape_of_kind kind end ws)
+kind_failed ExactKind end ws = tt
+kind_failed StdKind end ws = one_failed Std end ws
+kind_failed ExpKind end ws = two_failed Exp end ws
+kind_failed NormKind end ws = level_failed Norm end ws
+kind_failed RectKind end ws = one_failed Rect end ws
+kind_failed TriKind end ws = one_failed Tri end ws
+kind_failed TrapKind end ws = two_failed Trap end ws
+kind_failed ArcsineKind end ws = one_failed Arcsine end ws
+
+named_failed : (o : Option ShapeKind) (end : ℕ) (w : Word) (ws : List Word) → IfFailed (shape_named o end w ws)
+named_failed None end w ws = tt
+named_failed (Some kind) end w ws = kind_failed kind end ws
+
+shape_failed : (end : ℕ) (ws : List Word) → IfFailed (shape_word end ws)
+shape_failed end [] = tt
+shape_failed end (w ∷ ws) = named_failed (kind_of w.text) end w ws
+
+degrees_failed : (end : ℕ) (ws : List Word) → IfFailed (degrees_word end ws)
+degrees_failed end [] = tt
+degrees_failed end (w ∷ ws) =
+    cond_failed (bytes_eq w.text (codes "dof")) (any_word dof_of end ws) _ (word_failed dof_of end ws)
+    (cond_failed (bytes_eq w.text (codes "rel")) (any_word rel_of end ws) (Err (Syntax (w.place + 1))) (word_failed rel_of end ws) tt)
 
 checked_failed : (r : Result Unit ShapeFault) → IfFailed (shape_checked r)
 checked_failed (Ok done) = tt
-checked_failed (Err fault) = tt
+checked_failed (Err NegativeShape) = tt
+checked_failed (Err ZeroFactor) = tt
+checked_failed (Err OtherBeta) = tt
+checked_failed (Err OtherLevel) = tt
+
+stated_failed : (o : Option Dof) → IfFailed (degrees_checked o)
+stated_failed None = tt
+stated_failed (Some dof) = tt
 
 given_failed : (end : ℕ) (ws : List Word) → IfFailed (given_of end ws)
 given_failed end ws =
     then_failed (plain_word end ws) _ (plain_failed end ws) (λ name.
     then_failed (number_word end name.rest) _ (number_failed end name.rest) (λ estimate.
     then_failed (shape_word end estimate.rest) _ (shape_failed end estimate.rest) (λ shape.
-    then_failed (ended shape.rest) _ (ended_failed shape.rest) (λ done.
-    then_failed (shape_checked (checked shape.item)) _ (checked_failed (checked shape.item)) (λ fine. tt)))))
+    then_failed (degrees_word end shape.rest) _ (degrees_failed end shape.rest) (λ dof.
+    then_failed (ended dof.rest) _ (ended_failed dof.rest) (λ done.
+    then_failed (shape_checked (checked shape.item)) _ (checked_failed (checked shape.item)) (λ fine.
+    then_failed (degrees_checked dof.item) _ (stated_failed dof.item) (λ degrees. tt)))))))
 
 -- the reading of an input takes no memory
 pub given_takes_none : (r : Result CodeRow RowFault) (end : ℕ) (ws : List Word) → IfErr r (λ fault. given_of end ws ≡ Err fault)
@@ -119,8 +171,8 @@ row_failed : (line : List ℕ) (ws : List Word) → IfFailed (row_at line ws)
 row_failed line [] = tt
 row_failed line (w ∷ ws) =
     cond_failed (bytes_eq w.text (codes "given")) _ _ (given_failed (length line) ws)
-    (cond_failed (bytes_eq w.text (codes "let")) (let_of line (w.place + length w.text)) (Err (other_word (is_other_kind w.text) w.place))
-    (let_failed line (w.place + length w.text)) (other_failed (is_other_kind w.text) w.place))
+    (cond_failed (bytes_eq w.text (codes "let")) (let_of line (w.place + length w.text)) (if is_other_kind w.text then Err NotBuilt else Err (Syntax (w.place + 1)))
+    (let_failed line (w.place + length w.text)) (cond_failed (is_other_kind w.text) (Err NotBuilt) (Err (Syntax (w.place + 1))) tt tt))
 
 pub row_never : (line : List ℕ) (ws : List Word) → row_at line ws ≢ Err OutOfMemory
 row_never line ws h = subst IfFailed h (row_failed line ws)

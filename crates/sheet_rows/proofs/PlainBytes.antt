@@ -85,7 +85,7 @@ point_plain : (p n : ℕ) → ArePlain (after_point p n)
 point_plain zero n = refl
 point_plain (suc p) n = last_plain (suc p) n
 
-decimal_plain : (n : ℕ) → n < 2 ^ 64 → ArePlain (decimal n)
+pub decimal_plain : (n : ℕ) → n < 2 ^ 64 → ArePlain (decimal n)
 decimal_plain n small = weaker is_ascii_digit is_plain digit_plain (decimal n) (digits_decimal numerals n small)
 
 sign_plain : (k : ℤ) → ArePlain (sign_of k)

@@ -1,81 +1,28 @@
 -- The printed text of a row is read as the row again.
-use Rattle.std.proofs.Common.{append_assoc, ◌≡◌, ℕ, ◌+◌, ◌<◌, true, List, [], ◌∷◌, ◌++◌, length, take, drop, refl, sym, ◌∙◌, ap, arith, drop-drop, Ok}
+use Rattle.std.proofs.Common.{append_assoc, ◌≡◌, ℕ, ◌+◌, ◌<◌, true, List, ◌∷◌, ◌++◌, length, take, drop, refl, sym, ◌∙◌, ap, arith, drop-drop, Ok}
 use Rattle.std.specs.Prelude.{codes}
 use Rattle.std.specs.List.{list_all, prefix_len}
 use Rattle.std.proofs.Math.Seq.{take-append_seam, drop-append_seam}
-use Rattle.decimal18.specs.Bound.{Bound, IsDecimal}
-use Rattle.decimal18.specs.Text.{text_of}
-use Rattle.decimal18.specs.Literal.{parsed}
-use Rattle.decimal18.proofs.TextAgain.{read_again as bound_again}
 use Rattle.formula_ast.specs.Names.{is_plain_name}
 use Rattle.formula_ast.specs.Trees.{Tree}
 use Rattle.formula_ast.specs.Reading.{reading_of}
 use Rattle.formula_ast.specs.Printing.{print}
 use Rattle.formula_ast.proofs.Again.{read_regular}
 use Rattle.line_text.specs.Blanks.{is_blank}
-use Rattle.line_text.specs.Words.{Word, is_in_word, words, written_part}
-use Rattle.line_text.proofs.WrittenTexts.{run_whole, IsSolid, solid_written, solid_after, one_word, last_word, no_blanks}
-use Rattle.type_b.specs.Shapes.{HasDecimals, checked}
-use Rattle.type_b.specs.declared.shape.Shape.{Shape}
-use Rattle.type_b.specs.declared.shape.Shape.TheVariants.{Exact, Std}
-use Rattle.type_b.specs.declared.shape.Dof.TheVariants.{Inf}
+use Rattle.line_text.specs.Words.{written_part}
+use Rattle.line_text.proofs.WrittenTexts.{run_whole, IsSolid, solid_written, solid_after, one_word, no_blanks}
 use Rattle.sheet_rows.specs.Rows.{Row, Given, Formula}
-use Rattle.sheet_rows.specs.Reading.{shape_word, given_of, past_blanks, leading_name, is_in_name, begins_equals, let_of, row_at, row_from, row_read}
+use Rattle.sheet_rows.specs.Reading.{past_blanks, leading_name, is_in_name, begins_equals, let_of, row_at, row_from, row_read}
 use Rattle.sheet_rows.specs.Regular.{IsRegular}
-use Rattle.sheet_rows.specs.Printing.{shape_text, printed}
+use Rattle.sheet_rows.specs.Printing.{printed}
 use Rattle.formula_ast.proofs.MovedPlaces.{read_after_blank}
-use Rattle.sheet_rows.proofs.PlainBytes.{ArePlain, all_in_word, all_no_hash, all_in_name, names_plain, name_some, text_plain, text_some}
-use Rattle.sheet_rows.proofs.SolidTexts.{plain_solid, print_solid}
+use Rattle.sheet_rows.proofs.PlainBytes.{ArePlain, all_in_word, all_no_hash, all_in_name, names_plain, name_some}
+use Rattle.sheet_rows.proofs.SolidTexts.{print_solid}
+use Rattle.sheet_rows.proofs.PrintedGivens.{given_line, given_text, given_solid, given_row}
 
--- ---- inputs
-shape_again : (s : Shape) (end at : ℕ) → HasDecimals s → shape_word end (words (shape_text s) 0 at) ≡ Ok (record { item = s; rest = [] })
-shape_again Exact end at h = ap (λ ws. shape_word end ws) (last_word (codes "exact") at refl (omega arith))
-shape_again (Std u) end at h =
-    let plain : ArePlain (text_of u) = text_plain u h.bound in
-    let parts : words (codes "std" ++ 32 ∷ text_of u) 0 at
-    ≡ record { place = at; text = codes "std" } ∷ record { place = at + 3 + 1; text = text_of u } ∷ []
-    = one_word (codes "std") (32 ∷ text_of u) at refl (omega arith) refl
-    ∙ ap (λ ws. record { place = at; text = codes "std" } ∷ ws) (last_word (text_of u) (at + 3 + 1) (all_in_word (text_of u) plain) (text_some u h.bound)) in
-    ap (λ ws. shape_word end ws) parts ∙ number (text_of u) u (bound_again u h.bound h.canonical) where
-      number : (t : List ℕ) (u : Bound) → parsed t ≡ Ok u →
-          shape_word end (record { place = at; text = codes "std" } ∷ record { place = at + 3 + 1; text = t } ∷ [])
-          ≡ Ok (record { item = Std u; rest = [] })
-      number t u e = rw e refl
-
-given_again : (end p q : ℕ) (name number : List ℕ) (e : Bound) (s : Shape) (ws : List Word) → is_plain_name name ≡ true → parsed number ≡ Ok e →
-    shape_word end ws ≡ Ok (record { item = s; rest = [] }) → checked s ≡ Ok (record {}) →
-    given_of end (record { place = p; text = name } ∷ record { place = q; text = number } ∷ ws) ≡ Ok (Given name e s Inf)
-given_again end p q name number e s ws plain value shape fine = rw (plain, value, shape, fine) refl
-
-given_words : (name number shape : List ℕ) → list_all is_in_word name ≡ true → 0 < length name → list_all is_in_word number ≡ true →
-    0 < length number →
-    words (codes "given" ++ 32 ∷ (name ++ 32 ∷ (number ++ 32 ∷ shape))) 0 0
-    ≡ record { place = 0; text = codes "given" } ∷ record { place = 6; text = name } ∷ record { place = 6 + length name + 1; text = number }
-    ∷ words shape 0 (6 + length name + 1 + length number + 1)
-given_words name number shape a b c d =
-    one_word (codes "given") (32 ∷ (name ++ 32 ∷ (number ++ 32 ∷ shape))) 0 refl (omega arith) refl
-    ∙ ap (λ ws. record { place = 0; text = codes "given" } ∷ ws) (one_word name (32 ∷ (number ++ 32 ∷ shape)) 6 a b refl)
-    ∙ ap (λ ws. record { place = 0; text = codes "given" } ∷ record { place = 6; text = name } ∷ ws)
-    (one_word number (32 ∷ shape) (6 + length name + 1) c d refl)
-
--- the printed texts, grouped from their ends
-abbrev given_line : List ℕ → List ℕ → List ℕ → List ℕ
-given_line name number shape = codes "given " ++ (name ++ (codes " " ++ (number ++ (codes " " ++ shape))))
-
+-- the printed text, grouped from its end
 abbrev let_line : List ℕ → List ℕ → List ℕ
 let_line name text = codes "let " ++ (name ++ (codes " = " ++ text))
-
-given_row : (name : List ℕ) (e : Bound) (s : Shape) → is_plain_name name ≡ true → IsDecimal e → HasDecimals s → checked s ≡ Ok (record {}) →
-    row_from (given_line name (text_of e) (shape_text s)) 0 ≡ Ok (Given name e s Inf)
-given_row name e s plain decimal has fine =
-    let number : List ℕ = text_of e in
-    let line : List ℕ = given_line name number (shape_text s) in
-    let name_words : list_all is_in_word name ≡ true = all_in_word name (names_plain name plain) in
-    let number_words : list_all is_in_word number ≡ true = all_in_word number (text_plain e decimal.bound) in
-    ap (λ ws. row_at line ws) (given_words name number (shape_text s) name_words (name_some name plain) number_words (text_some e decimal.bound))
-    ∙ given_again (length line) 6 (6 + length name + 1) name number e s (words (shape_text s) 0 (6 + length name + 1 + length number + 1)) plain
-    (bound_again e decimal.bound decimal.canonical)
-    (shape_again s (length line) (6 + length name + 1 + length number + 1) has) fine
 
 -- ---- formulas
 let_again : (line name : List ℕ) (f : Tree) (at p q : ℕ) → past_blanks line at ≡ p → leading_name (drop p line) ≡ name →
@@ -113,26 +60,10 @@ formula_row name f plain read =
     (ap reading_of text ∙ read_after_blank (print f) f read)
 
 -- ---- rows
-given_solid : (name : List ℕ) (e : Bound) (s : Shape) → is_plain_name name ≡ true → IsDecimal e → HasDecimals s → IsSolid (given_line name (text_of e) (shape_text s))
-given_solid name e s plain decimal stated =
-    solid_after (codes "given ") _ refl
-    (solid_after name _ (all_no_hash name (names_plain name plain))
-    (solid_after (codes " ") _ refl
-    (solid_after (text_of e) _ (all_no_hash (text_of e) (text_plain e decimal.bound))
-    (solid_after (codes " ") (shape_text s) refl (shape_solid s stated))))) where
-      shape_solid : (s : Shape) → HasDecimals s → IsSolid (shape_text s)
-      shape_solid Exact h = record { no_hash = refl; ends = refl; some = omega arith }
-      shape_solid (Std u) h = solid_after (codes "std ") (text_of u) refl (plain_solid (text_of u) (text_plain u h.bound) (text_some u h.bound))
-
 formula_solid : (name : List ℕ) (f : Tree) → is_plain_name name ≡ true → IsSolid (print f) → IsSolid (let_line name (print f))
 formula_solid name f plain h =
     solid_after (codes "let ") _ refl
     (solid_after name _ (all_no_hash name (names_plain name plain)) (solid_after (codes " = ") (print f) refl h))
-
-given_text : (name : List ℕ) (e : Bound) (s : Shape) → printed (Given name e s Inf) ≡ given_line name (text_of e) (shape_text s)
-given_text name e s = grouped (codes "given ") name (codes " ") (text_of e) (codes " ") (shape_text s) where
-  grouped : (a b c d e f : List ℕ) → a ++ b ++ c ++ d ++ e ++ f ≡ a ++ (b ++ (c ++ (d ++ (e ++ f))))
-  grouped a b c d e f = simp append_assoc
 
 formula_text : (name : List ℕ) (f : Tree) → printed (Formula name f) ≡ let_line name (print f)
 formula_text name f = grouped (codes "let ") name (codes " = ") (print f) where
@@ -146,9 +77,9 @@ line_again text line row e solid read =
     ap (λ t. row_from (written_part t) 0) e ∙ ap (λ t. row_from t 0) (solid_written line solid) ∙ read
 
 pub read_again : (row : Row) → IsRegular row → row_read (printed row) 0 ≡ Ok row
-read_again (Given name e s Inf) h =
-    line_again (printed (Given name e s Inf)) (given_line name (text_of e) (shape_text s)) (Given name e s Inf) (given_text name e s)
-    (given_solid name e s h.0 h.1 h.2) (given_row name e s h.0 h.1 h.2 h.3)
+read_again (Given name e s d) h =
+    line_again (printed (Given name e s d)) (given_line name e s d) (Given name e s d) (given_text name e s d) (given_solid name e s d h)
+    (given_row name e s d h)
 read_again (Formula name f) h =
     line_again (printed (Formula name f)) (let_line name (print f)) (Formula name f) (formula_text name f)
     (formula_solid name f h.0 (print_solid f (read_regular (print f) f h.1)))

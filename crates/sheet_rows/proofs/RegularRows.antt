@@ -1,6 +1,6 @@
 -- What lines give are regular rows.
 use Rattle.std.proofs.Common.{◌≡◌, ℕ, ◌+◌, Bool, true, false, cond, List, [], ◌∷◌, length, drop, refl, subst, arith, Option, None, Some, Result, Ok, Err, IfOk}
-use Rattle.std.specs.Prelude.{codes, bytes_eq}
+use Rattle.std.specs.Prelude.{codes, bytes_eq, option_map, IfSome, if◌then◌else◌}
 use Rattle.std.proofs.lemmas.Bool.Decides.{nat_tests}
 use Rattle.decimal18.specs.Bound.{Bound, canonical, IsCanonical, IsDecimal}
 use Rattle.decimal18.specs.Literal.{Literal, literal_of, exact_of, is_bound, as_bound, read, parsed}
@@ -15,13 +15,20 @@ use Rattle.formula_ast.specs.Reading.{reading_of}
 use Rattle.formula_ast.specs.declared.fault.FormulaFault.{FormulaFault}
 use Rattle.formula_ast.proofs.Again.{read_again}
 use Rattle.line_text.specs.Words.{Word, written_part, words_from}
-use Rattle.type_b.specs.Shapes.{HasDecimals, checked}
-use Rattle.type_b.specs.declared.shape.Shape.TheVariants.{Exact}
+use Rattle.type_b.specs.Shapes.{HasDecimals, checked, are_degrees, IsDegrees}
+use Rattle.type_b.specs.declared.shape.Shape.{Shape}
+use Rattle.type_b.specs.declared.shape.Shape.TheVariants.{Std, Exp, Norm, Rect, Tri, Trap, Arcsine}
+use Rattle.type_b.specs.declared.shape.Dof.{Dof}
+use Rattle.type_b.specs.declared.shape.Dof.TheVariants.{Inf, Whole, Rel}
 use Rattle.type_b.specs.declared.shape.ShapeFault.{ShapeFault}
 use Rattle.sheet_rows.specs.Rows.{Row}
-use Rattle.sheet_rows.specs.Reading.{Read, then_read, plain_word, number_in, number_word, is_other_shape, is_other_kind, other_word, std_shape, shape_word, ended, shape_checked, given_of, past_blanks, leading_name, name_at, equals_at, formula_in, formula_at, let_of, row_at, row_read}
+use Rattle.sheet_rows.specs.Parts.{Read, then_read, Parsed, any_word, plain_word, number_in, number_word, ended}
+use Rattle.sheet_rows.specs.Givens.{kind_of, level_of, with_number, with_numbers, with_level, shape_of_kind, shape_named, shape_word, whole_of, allowed, dof_of, rel_of, degrees_word, shape_checked, degrees_checked, given_of}
+use Rattle.sheet_rows.specs.Reading.{is_other_kind, past_blanks, leading_name, name_at, equals_at, formula_in, formula_at, let_of, row_at, row_read}
+use Rattle.sheet_rows.specs.declared.read_shape.ShapeKind.{ShapeKind}
+use Rattle.sheet_rows.specs.declared.read_shape.ShapeKind.TheVariants.{Exact as ExactKind, Std as StdKind, Exp as ExpKind, Norm as NormKind, Rect as RectKind, Tri as TriKind, Trap as TrapKind, Arcsine as ArcsineKind}
 use Rattle.sheet_rows.specs.Regular.{IsRegular}
-use Rattle.sheet_rows.specs.declared.fault.RowFault.TheVariants.{Syntax}
+use Rattle.sheet_rows.specs.declared.fault.RowFault.TheVariants.{Syntax, NotBuilt}
 
 -- ---- numbers
 bound_decimal : (c : Bound) (t : Bool) → is_bound c ≡ t → IsCanonical c → (b : Bound) → cond t (Some c) None ≡ Some b → IsDecimal b
@@ -51,6 +58,10 @@ then_ok : {A B : Type 0} (P : A → Type 0) (Q : B → Type 0) (r : Read A) (nex
 then_ok P Q (Err fault) next h k = tt
 then_ok P Q (Ok x) next h k = k x h
 
+pub any_ok : {A E : Type 0} (r : Result A E) → IfOk r (λ x. Unit {0})
+any_ok (Ok x) = tt
+any_ok (Err fault) = tt
+
 plain_ok : (end : ℕ) (ws : List Word) → IfOk (plain_word end ws) (λ x. is_plain_name x.item ≡ true)
 plain_ok end [] = tt
 plain_ok end (w ∷ ws) =
@@ -67,30 +78,97 @@ number_ok : (end : ℕ) (ws : List Word) → IfOk (number_word end ws) (λ x. Is
 number_ok end [] = tt
 number_ok end (w ∷ ws) = literal_ok w ws (parsed w.text) (λ b h. parsed_decimal w.text b h)
 
-shape_ok : (end : ℕ) (ws : List Word) → IfOk (shape_word end ws) (λ x. HasDecimals x.item)
-shape_ok end [] = tt
-shape_ok end (w ∷ ws) =
-    cond_ok (λ x. HasDecimals x.item) (bytes_eq w.text (codes "exact")) (Ok (record { item = Exact; rest = ws })) _ (λ e. tt)
-    (cond_ok (λ x. HasDecimals x.item) (bytes_eq w.text (codes "std")) (then_read (number_word end ws) std_shape)
-    (Err (other_word (is_other_shape w.text) w.place))
-    (λ e. then_ok (λ u. IsDecimal u.item) (λ x. HasDecimals x.item) (number_word end ws) std_shape (number_ok end ws) (λ u d. d)) tt)
-
 checked_ok : (r : Result Unit ShapeFault) → IfOk (shape_checked r) (λ done. r ≡ Ok (record {}))
 checked_ok (Ok done) = refl
 checked_ok (Err fault) = tt
 
-pub any_ok : {A E : Type 0} (r : Result A E) → IfOk r (λ x. Unit {0})
-any_ok (Ok x) = tt
-any_ok (Err fault) = tt
+-- ---- shapes
+abbrev HasNumbers : Parsed Shape → Type 0
+HasNumbers x = HasDecimals x.item
 
+one_ok : (make : Bound → Shape) → ((a : Bound) → IsDecimal a → HasDecimals (make a)) → (end : ℕ) (ws : List Word) →
+    IfOk (with_number make end ws) HasNumbers
+one_ok make h end ws =
+    then_ok (λ x. IsDecimal x.item) HasNumbers (number_word end ws) (λ a. Ok (record { item = make a.item; rest = a.rest })) (number_ok end ws)
+    (λ a d. h a.item d)
+
+two_ok : (make : Bound → Bound → Shape) → ((a b : Bound) → IsDecimal a → IsDecimal b → HasDecimals (make a b)) → (end : ℕ) (ws : List Word) →
+    IfOk (with_numbers make end ws) HasNumbers
+two_ok make h end ws =
+    then_ok (λ x. IsDecimal x.item) HasNumbers (number_word end ws) (λ a. with_number (make a.item) end a.rest) (number_ok end ws)
+    (λ a d. one_ok (make a.item) (λ b e. h a.item b d e) end a.rest)
+
+level_ok : (make : Bound → ℕ → Shape) → ((a : Bound) (level : ℕ) → IsDecimal a → HasDecimals (make a level)) → (end : ℕ) (ws : List Word) →
+    IfOk (with_level make end ws) HasNumbers
+level_ok make h end ws =
+    then_ok (λ x. IsDecimal x.item) HasNumbers (number_word end ws) _ (number_ok end ws) (λ a d.
+    then_ok (λ x. Unit {0}) HasNumbers (any_word level_of end a.rest) (λ level. Ok (record { item = make a.item level.item; rest = level.rest }))
+    (any_ok (any_word level_of end a.rest)) (λ level u. h a.item level.item d))
+
+kind_ok : (kind : ShapeKind) (end : ℕ) (ws : List Word) → IfOk (shape_of_kind kind end ws) HasNumbers
+kind_ok ExactKind end ws = tt
+kind_ok StdKind end ws = one_ok Std (λ a d. d) end ws
+kind_ok ExpKind end ws = two_ok Exp (λ a b d e. (d, e)) end ws
+kind_ok NormKind end ws = level_ok Norm (λ a level d. d) end ws
+kind_ok RectKind end ws = one_ok Rect (λ a d. d) end ws
+kind_ok TriKind end ws = one_ok Tri (λ a d. d) end ws
+kind_ok TrapKind end ws = two_ok Trap (λ a b d e. (d, e)) end ws
+kind_ok ArcsineKind end ws = one_ok Arcsine (λ a d. d) end ws
+
+named_ok : (o : Option ShapeKind) (end : ℕ) (w : Word) (ws : List Word) → IfOk (shape_named o end w ws) HasNumbers
+named_ok None end w ws = tt
+named_ok (Some kind) end w ws = kind_ok kind end ws
+
+shape_ok : (end : ℕ) (ws : List Word) → IfOk (shape_word end ws) HasNumbers
+shape_ok end [] = tt
+shape_ok end (w ∷ ws) = named_ok (kind_of w.text) end w ws
+
+-- ---- degrees of freedom
+abbrev AreAllowed : Option Dof → Type 0
+AreAllowed o = IfSome o IsDegrees
+
+some_allowed : (dof : Dof) (t : Bool) → are_degrees dof ≡ t → AreAllowed (cond t (Some dof) None)
+some_allowed dof true e = e
+some_allowed dof false e = tt
+
+allowed_ok : (o : Option Dof) → AreAllowed (allowed o)
+allowed_ok None = tt
+allowed_ok (Some dof) = some_allowed dof (are_degrees dof) refl
+
+dof_ok : (text : List ℕ) → AreAllowed (dof_of text)
+dof_ok text = by (bytes_eq text (codes "inf")) (allowed_ok (option_map Whole (whole_of 7 text))) where
+  by : (t : Bool) → AreAllowed (allowed (option_map Whole (whole_of 7 text))) →
+      AreAllowed (cond t (Some Inf) (allowed (option_map Whole (whole_of 7 text))))
+  by true h = refl
+  by false h = h
+
+word_ok : (meaning : List ℕ → Option Dof) → ((text : List ℕ) → AreAllowed (meaning text)) → (end : ℕ) (ws : List Word) →
+    IfOk (any_word meaning end ws) (λ x. AreAllowed x.item)
+word_ok meaning h end [] = tt
+word_ok meaning h end (w ∷ ws) = h w.text
+
+degrees_ok : (end : ℕ) (ws : List Word) → IfOk (degrees_word end ws) (λ x. AreAllowed x.item)
+degrees_ok end [] = refl
+degrees_ok end (w ∷ ws) =
+    cond_ok (λ x. AreAllowed x.item) (bytes_eq w.text (codes "dof")) (any_word dof_of end ws) _ (λ e. word_ok dof_of dof_ok end ws)
+    (cond_ok (λ x. AreAllowed x.item) (bytes_eq w.text (codes "rel")) (any_word rel_of end ws) (Err (Syntax (w.place + 1)))
+    (λ e. word_ok rel_of (λ text. allowed_ok (option_map Rel (whole_of 2 text))) end ws) tt)
+
+stated_ok : (o : Option Dof) → AreAllowed o → IfOk (degrees_checked o) IsDegrees
+stated_ok None h = tt
+stated_ok (Some dof) h = h
+
+-- ---- rows
 given_ok : (end : ℕ) (ws : List Word) → IfOk (given_of end ws) IsRegular
 given_ok end ws =
     then_ok (λ x. is_plain_name x.item ≡ true) IsRegular (plain_word end ws) _ (plain_ok end ws) (λ name plain.
     then_ok (λ x. IsDecimal x.item) IsRegular (number_word end name.rest) _ (number_ok end name.rest) (λ estimate decimal.
-    then_ok (λ x. HasDecimals x.item) IsRegular (shape_word end estimate.rest) _ (shape_ok end estimate.rest) (λ shape has.
-    then_ok (λ x. Unit {0}) IsRegular (ended shape.rest) _ (any_ok (ended shape.rest)) (λ done u.
+    then_ok HasNumbers IsRegular (shape_word end estimate.rest) _ (shape_ok end estimate.rest) (λ shape has.
+    then_ok (λ x. AreAllowed x.item) IsRegular (degrees_word end shape.rest) _ (degrees_ok end shape.rest) (λ dof allows.
+    then_ok (λ x. Unit {0}) IsRegular (ended dof.rest) _ (any_ok (ended dof.rest)) (λ done u.
     then_ok (λ x. checked shape.item ≡ Ok (record {})) IsRegular (shape_checked (checked shape.item)) _ (checked_ok (checked shape.item)) (λ fine states.
-    (plain, decimal, has, states))))))
+    then_ok IsDegrees IsRegular (degrees_checked dof.item) _ (stated_ok dof.item allows) (λ degrees are.
+    (plain, decimal, has, states, are))))))))
 
 -- the printed formula is read as the formula again
 abbrev IsReadAgain : Tree → Type 0
@@ -115,8 +193,8 @@ pub row_regular : (line : List ℕ) (ws : List Word) → IfOk (row_at line ws) I
 row_regular line [] = tt
 row_regular line (w ∷ ws) =
     cond_ok IsRegular (bytes_eq w.text (codes "given")) (given_of (length line) ws) _ (λ e. given_ok (length line) ws)
-    (cond_ok IsRegular (bytes_eq w.text (codes "let")) (let_of line (w.place + length w.text)) (Err (other_word (is_other_kind w.text) w.place))
-    (λ e. let_ok line (w.place + length w.text)) tt)
+    (cond_ok IsRegular (bytes_eq w.text (codes "let")) (let_of line (w.place + length w.text)) (if is_other_kind w.text then Err NotBuilt else Err (Syntax (w.place + 1)))
+    (λ e. let_ok line (w.place + length w.text)) (cond_ok IsRegular (is_other_kind w.text) (Err NotBuilt) (Err (Syntax (w.place + 1))) (λ e. tt) tt))
 
 pub read_regular : (line : List ℕ) (from : ℕ) → IfOk (row_read line from) IsRegular
 unfolding row_read

@@ -6,8 +6,9 @@ use Rattle.std.proofs.Common.{◌⊎◌, inl, inr, sym, ◌∙◌, ap}
 use Rattle.std.proofs.lemmas.List.{append_assoc, append-nil}
 use Rattle.decimal18.specs.Bound.{Bound, scaled}
 use Rattle.type_b.specs.declared.shape.Shape.{Shape}
-use Rattle.type_b.specs.declared.shape.Shape.TheVariants.{Exact, Std}
-use Rattle.type_b.specs.declared.shape.Dof.TheVariants.{Inf}
+use Rattle.type_b.specs.declared.shape.Shape.TheVariants.{Exact, Std, Exp, Norm, Rect, Tri, Trap, Arcsine}
+use Rattle.type_b.specs.declared.shape.Dof.{Dof}
+use Rattle.type_b.specs.declared.shape.Dof.TheVariants.{Inf, Whole, Rel}
 use Rattle.formula_ast.specs.Trees.{Tree, Number, Variable, Opposite, Joined, Raised}
 use Rattle.formula_ast.specs.declared.token.Sign.{Sign}
 use Rattle.formula_ast.specs.declared.token.Sign.TheVariants.{Plus, Minus, Times, Over}
@@ -124,39 +125,90 @@ coded_tree : Coded Tree
 coded_tree = code_by (List Step) (coded_list coded_step) steps_of tree_after tree_again
 
 -- ---- rows
-deviation_of : Shape → Option Bound
-deviation_of Exact = None
-deviation_of (Std u) = Some u
+-- a shape: at most one number, two numbers, or a number and a level
+abbrev ShapeParts : Type 0
+ShapeParts = Option Bound ⊎ (Bound ⊎ (Bound ⊎ (Bound ⊎ ((Bound × Bound) ⊎ ((Bound × Bound) ⊎ (Bound × ℕ))))))
 
-shape_of : Option Bound → Shape
-shape_of None = Exact
-shape_of (Some u) = Std u
+parts_of_shape : Shape → ShapeParts
+parts_of_shape Exact = inl None
+parts_of_shape (Std u) = inl (Some u)
+parts_of_shape (Rect half) = inr (inl half)
+parts_of_shape (Tri half) = inr (inr (inl half))
+parts_of_shape (Arcsine half) = inr (inr (inr (inl half)))
+parts_of_shape (Exp expanded k) = inr (inr (inr (inr (inl (expanded, k)))))
+parts_of_shape (Trap half beta) = inr (inr (inr (inr (inr (inl (half, beta))))))
+parts_of_shape (Norm half level) = inr (inr (inr (inr (inr (inr (half, level))))))
 
-shape_again : (s : Shape) → shape_of (deviation_of s) ≡ s
-unfolding deviation_of shape_of
+shape_of : ShapeParts → Shape
+shape_of (inl None) = Exact
+shape_of (inl (Some u)) = Std u
+shape_of (inr (inl half)) = Rect half
+shape_of (inr (inr (inl half))) = Tri half
+shape_of (inr (inr (inr (inl half)))) = Arcsine half
+shape_of (inr (inr (inr (inr (inl (expanded, k)))))) = Exp expanded k
+shape_of (inr (inr (inr (inr (inr (inl (half, beta))))))) = Trap half beta
+shape_of (inr (inr (inr (inr (inr (inr (half, level))))))) = Norm half level
+
+shape_again : (s : Shape) → shape_of (parts_of_shape s) ≡ s
+unfolding parts_of_shape shape_of
 shape_again Exact = refl
 shape_again (Std u) = refl
+shape_again (Rect half) = refl
+shape_again (Tri half) = refl
+shape_again (Arcsine half) = refl
+shape_again (Exp expanded k) = refl
+shape_again (Trap half beta) = refl
+shape_again (Norm half level) = refl
+
+coded_shape : Coded Shape
+coded_shape =
+    code_by ShapeParts
+    (coded⊎ (coded_option coded_bound) (coded⊎ coded_bound (coded⊎ coded_bound (coded⊎ coded_bound
+    (coded⊎ (coded× coded_bound coded_bound) (coded⊎ (coded× coded_bound coded_bound) (coded× coded_bound coded_ℕ)))))))
+    parts_of_shape shape_of shape_again
+
+abbrev DofParts : Type 0
+DofParts = Option (ℕ ⊎ ℕ)
+
+parts_of_dof : Dof → DofParts
+parts_of_dof Inf = None
+parts_of_dof (Whole n) = Some (inl n)
+parts_of_dof (Rel percent) = Some (inr percent)
+
+dof_of : DofParts → Dof
+dof_of None = Inf
+dof_of (Some (inl n)) = Whole n
+dof_of (Some (inr percent)) = Rel percent
+
+dof_again : (d : Dof) → dof_of (parts_of_dof d) ≡ d
+unfolding parts_of_dof dof_of
+dof_again Inf = refl
+dof_again (Whole n) = refl
+dof_again (Rel percent) = refl
+
+coded_dof : Coded Dof
+coded_dof = code_by DofParts (coded_option (coded⊎ coded_ℕ coded_ℕ)) parts_of_dof dof_of dof_again
 
 abbrev Fields : Type 0
-Fields = (List ℕ × (Bound × Option Bound)) ⊎ (List ℕ × Tree)
+Fields = (List ℕ × (Bound × (Shape × Dof))) ⊎ (List ℕ × Tree)
 
 fields_of : Row → Fields
-fields_of (Given name estimate shape Inf) = inl (name, (estimate, deviation_of shape))
+fields_of (Given name estimate shape dof) = inl (name, (estimate, (shape, dof)))
 fields_of (Formula name formula) = inr (name, formula)
 
 row_of_fields : Fields → Row
-row_of_fields (inl (name, (estimate, deviation))) = Given name estimate (shape_of deviation) Inf
+row_of_fields (inl (name, (estimate, (shape, dof)))) = Given name estimate shape dof
 row_of_fields (inr (name, formula)) = Formula name formula
 
 row_again : (row : Row) → row_of_fields (fields_of row) ≡ row
 unfolding fields_of row_of_fields
-row_again (Given name estimate shape Inf) = ap (λ s. Given name estimate s Inf) (shape_again shape)
+row_again (Given name estimate shape dof) = refl
 row_again (Formula name formula) = refl
 
 pub coded_row : Coded Row
 coded_row =
     code_by Fields
-    (coded⊎ (coded× (coded_list coded_ℕ) (coded× coded_bound (coded_option coded_bound))) (coded× (coded_list coded_ℕ) coded_tree))
+    (coded⊎ (coded× (coded_list coded_ℕ) (coded× coded_bound (coded× coded_shape coded_dof))) (coded× (coded_list coded_ℕ) coded_tree))
     fields_of row_of_fields row_again
 
 -- ---- sheets

@@ -4,9 +4,6 @@
 use Rattle.std.specs.Prelude.{ℕ, ◌+◌, ◌==◌, ◌||◌, Bool, false, not, if◌then◌else◌, List, [], ◌∷◌, length, take, drop, Result, Ok, Err, bytes_eq, codes}
 use Rattle.std.specs.List.{prefix_len}
 use Rattle.line_text.specs.Characters.{equals_sign}
-use Rattle.decimal18.specs.Bound.{Bound}
-use Rattle.decimal18.specs.Literal.{parsed}
-use Rattle.decimal18.specs.declared.literal.NumFault.{NumFault}
 use Rattle.decimal18.specs.declared.literal.NumFault.TheVariants.{NotNumber as NoLiteral, NumberRange as NoBound}
 use Rattle.formula_ast.specs.Names.{is_plain_name}
 use Rattle.formula_ast.specs.Trees.{Tree}
@@ -15,90 +12,16 @@ use Rattle.formula_ast.specs.declared.fault.FormulaFault.{FormulaFault}
 use Rattle.formula_ast.specs.declared.fault.FormulaFault.TheVariants.{Syntax as FormulaSyntax, UnknownFunction as FormulaFunction, Number as FormulaNumber, BadPower as FormulaPower, TooDeep as FormulaDeep, TooMany as FormulaMany, OutOfMemory as FormulaMemory}
 use Rattle.line_text.specs.Blanks.{is_blank}
 use Rattle.line_text.specs.Words.{Word, words_from, written_part}
-use Rattle.type_b.specs.Shapes.{checked}
-use Rattle.type_b.specs.declared.shape.Shape.{Shape}
-use Rattle.type_b.specs.declared.shape.Shape.TheVariants.{Exact, Std}
-use Rattle.type_b.specs.declared.shape.Dof.TheVariants.{Inf}
-use Rattle.type_b.specs.declared.shape.ShapeFault.{ShapeFault}
-use Rattle.sheet_rows.specs.Rows.{Row, Given, Formula}
+use Rattle.sheet_rows.specs.Rows.{Row, Formula}
+use Rattle.sheet_rows.specs.Parts.{Read, then_read}
+use Rattle.sheet_rows.specs.Givens.{given_of}
 use Rattle.sheet_rows.specs.declared.fault.RowFault.{RowFault}
-use Rattle.sheet_rows.specs.declared.fault.RowFault.TheVariants.{Syntax, NotNumber, NumberRange, UnknownFunction, BadPower, TooDeep, TooManyNodes, Negative, NotBuilt, OutOfMemory}
+use Rattle.sheet_rows.specs.declared.fault.RowFault.TheVariants.{Syntax, NotNumber, NumberRange, UnknownFunction, BadPower, TooDeep, TooManyNodes, NotBuilt, OutOfMemory}
 
-abbrev pub Read : Type 0 → Type 0
-Read A = Result A RowFault
-
-abbrev pub then_read : {A B : Type 0} → Read A → (A → Read B) → Read B
-then_read (Err fault) next = Err fault
-then_read (Ok x) next = next x
-
--- ---- words. `end` is the length of the line
--- what was read, and the words after it
-pub record Parsed (A : Type 0) : Type 0 where
-  pub item : A
-  pub rest : List Word
-
--- a plain name
-abbrev pub plain_word : ℕ → List Word → Read (Parsed (List ℕ))
-plain_word end [] = Err (Syntax (end + 1))
-plain_word end (w ∷ ws) = if is_plain_name w.text then Ok (record { item = w.text; rest = ws }) else Err (Syntax (w.place + 1))
-
--- a number
-abbrev pub number_in : Word → List Word → Result Bound NumFault → Read (Parsed Bound)
-number_in w ws (Ok b) = Ok (record { item = b; rest = ws })
-number_in w ws (Err NoLiteral) = Err (NotNumber (w.place + 1))
-number_in w ws (Err NoBound) = Err (NumberRange (w.place + 1))
-
-abbrev pub number_word : ℕ → List Word → Read (Parsed Bound)
-number_word end [] = Err (Syntax (end + 1))
-number_word end (w ∷ ws) = number_in w ws (parsed w.text)
-
--- ---- forms of the language that this version does not have
-abbrev pub is_other_shape : List ℕ → Bool
-is_other_shape text =
-    bytes_eq text (codes "exp") || (bytes_eq text (codes "norm") || (bytes_eq text (codes "rect") || (bytes_eq text (codes "tri")
-    || (bytes_eq text (codes "trap") || bytes_eq text (codes "arcsine")))))
-
-abbrev pub is_degrees_word : List ℕ → Bool
-is_degrees_word text = bytes_eq text (codes "dof") || bytes_eq text (codes "rel")
-
+-- ---- kinds of rows of the language that this version does not have
 abbrev pub is_other_kind : List ℕ → Bool
 is_other_kind text =
     bytes_eq text (codes "readings") || (bytes_eq text (codes "table") || (bytes_eq text (codes "corr") || bytes_eq text (codes "tol")))
-
--- a word with which the language goes on, but not this version; or one with which it does not
-abbrev pub other_word : Bool → ℕ → RowFault
-other_word other place = if other then NotBuilt else Syntax (place + 1)
-
--- ---- inputs
--- the shape `std`, with the standard uncertainty after it
-abbrev pub std_shape : Parsed Bound → Read (Parsed Shape)
-std_shape u = Ok (record { item = Std u.item; rest = u.rest })
-
-abbrev pub shape_word : ℕ → List Word → Read (Parsed Shape)
-shape_word end [] = Err (Syntax (end + 1))
-shape_word end (w ∷ ws) =
-    if bytes_eq w.text (codes "exact") then Ok (record { item = Exact; rest = ws }) else
-    if bytes_eq w.text (codes "std") then then_read (number_word end ws) std_shape else
-    Err (other_word (is_other_shape w.text) w.place)
-
--- no word more
-abbrev pub ended : List Word → Read Unit
-ended [] = Ok (record {})
-ended (w ∷ ws) = Err (other_word (is_degrees_word w.text) w.place)
-
--- a shape that states an uncertainty
-abbrev pub shape_checked : Result Unit ShapeFault → Read Unit
-shape_checked (Ok done) = Ok done
-shape_checked (Err fault) = Err Negative
-
--- `NAME ESTIMATE exact`, `NAME ESTIMATE std UNCERTAINTY`
-abbrev pub given_of : ℕ → List Word → Read Row
-given_of end ws =
-    then_read (plain_word end ws) (λ name.
-    then_read (number_word end name.rest) (λ estimate.
-    then_read (shape_word end estimate.rest) (λ shape.
-    then_read (ended shape.rest) (λ done.
-    then_read (shape_checked (checked shape.item)) (λ fine. Ok (Given name.item estimate.item shape.item Inf))))))
 
 -- ---- formulas: the blanks round `=` may be missing
 -- what was read, and the place after it
@@ -166,7 +89,7 @@ row_at line [] = Err (Syntax (length line + 1))
 row_at line (w ∷ ws) =
     if bytes_eq w.text (codes "given") then given_of (length line) ws else
     if bytes_eq w.text (codes "let") then let_of line (w.place + length w.text) else
-    Err (other_word (is_other_kind w.text) w.place)
+    if is_other_kind w.text then Err NotBuilt else Err (Syntax (w.place + 1))
 
 -- whether these words are to give a formula row: no other row's reading takes memory
 abbrev pub begin_formula : List Word → Bool

@@ -19,8 +19,17 @@ pub enum RowFault {
     TooDeep(usize),
     /// The formula has more than 256 nodes.
     TooManyNodes(usize),
-    /// The standard uncertainty is below 0.
+    /// A standard or an expanded uncertainty, a half-width or a coverage factor is below 0.
     Negative,
+    /// The coverage factor is 0.
+    ZeroK,
+    /// The share of a trapezoid's base that its top is wide is below 0 or above 1.
+    Beta,
+    /// The level of a normal distribution is not the word `90`, `95` or `99`.
+    Level,
+    /// The degrees of freedom are not `inf` and not in digits from 1 to 1,000,000, or those of a relative
+    /// uncertainty that is not in digits from 1 to 70 percent.
+    DofRange,
     /// The line goes on with a form of the language that this version does not have.
     NotBuilt,
     /// There was no memory for the row.
@@ -40,13 +49,16 @@ impl From<OutOfMemory> for RowFault {
 
 impl From<ShapeFault> for RowFault {
     ghost use Rattle.std.specs.Prelude.{◌≡◌};
-    ghost use Rattle.sheet_rows.specs.declared.fault.RowFault.{RowFault};
+    ghost use Rattle.sheet_rows.specs.Givens.{shape_fault};
 
-    ghost from_gives = { λ _ fault. fault ≡ RowFault.Negative };
+    ghost from_gives = { λ fault row_fault. row_fault ≡ shape_fault fault };
 
     fn from(fault: ShapeFault) -> RowFault {
         match fault {
             ShapeFault::Negative => RowFault::Negative,
+            ShapeFault::ZeroK => RowFault::ZeroK,
+            ShapeFault::Beta => RowFault::Beta,
+            ShapeFault::Level => RowFault::Level,
         }
     }
 }

@@ -5,10 +5,13 @@ mod edit_fault;
 mod edits;
 mod fault;
 mod laws;
+mod parts;
 mod print;
 mod read;
+mod read_degrees;
 mod read_given;
 mod read_let;
+mod read_shape;
 #[cfg(test)]
 mod read_tests;
 mod reading_laws;
@@ -18,6 +21,7 @@ mod sheet;
 #[cfg(test)]
 mod tests;
 mod users;
+mod worked;
 
 pub use edit_fault::EditFault;
 pub use fault::RowFault;
@@ -32,3 +36,4 @@ pub use reading_laws::{printed_rows_are_read_again, rows_are_never_out_of_memory
 pub use row::Row;
 pub use row_list::RowList;
 pub use sheet::Sheet;
+pub use worked::{worked_degrees, worked_refusals, worked_shapes, worked_texts};
