@@ -44,6 +44,10 @@ pub enum LineFault {
     Row(RowFault),
     /// The line has more bytes than a line may have.
     LongLine,
+    /// The table block has more bytes than a block may have.
+    LongTable,
+    /// The input ends inside the table block.
+    UnclosedTable,
     /// The command is known, and is not there yet.
     NotBuilt,
     /// There was no memory for the command.

@@ -4,12 +4,13 @@ use Rattle.std.proofs.Common.{arith, ap, subst, sym, ◌∙◌}
 use Rattle.std.specs.Fmt.{digits}
 use Rattle.sheet_rows.specs.Reading.{row_read}
 use Rattle.value_cache.specs.Evaluations.{evaluation_of}
+use Rattle.script_lines.specs.Blocks.{opens_block, ends_block}
 use Rattle.script_lines.specs.Commands.{line_read}
 use Rattle.gum_cli.specs.Script.{out}
 use Rattle.gum_cli.specs.Run.{RoomForReplies}
 
 reply_to_query : out (codes "value X\n") ≡ codes "refused no_such_result X\n"
-unfolding digits line_read row_read evaluation_of
+unfolding digits opens_block ends_block line_read row_read evaluation_of
 reply_to_query = refl
 
 reply_fits : length (out (codes "value X\n")) ≤ 25

@@ -22,7 +22,7 @@ const SHEET: &[u8; 53] = b"given X 5 std 1\nlet Y = X + 2\ngiven x 1 exact\nmark
 const DUMP: &[u8; 49] = b"given X 5 std 1\nlet Y = X + 2\ngiven x 1 exact\nok\n";
 
 // Lines that are refused on this sheet, and why.
-const REFUSED: [(&str, &str); 27] = [
+const REFUSED: [(&str, &str); 28] = [
     ("let Z = X +", "syntax 12"),
     ("mark X.Y", "syntax 6"),
     ("given Z 5. std 1", "not_number 9"),
@@ -39,7 +39,8 @@ const REFUSED: [(&str, &str); 27] = [
     ),
     ("given Z 1 std -1", "negative"),
     ("given Z 1 rect 1", "not_built"),
-    ("table T", "not_built"),
+    ("readings R 1 2", "not_built"),
+    ("table T\nA\ndump\nend", "not_built"),
     ("var X", "not_built"),
     ("given X 1 exact", "duplicate X"),
     ("let x = Q", "duplicate x"),
@@ -203,6 +204,10 @@ fn refuses_lines(rt: HostRuntime) -> Result<(), Fail> {
         b"given X 5. std 1\ngiven X 5 std -1\ngiven X\n" => b"refused not_number 9\nrefused negative\nrefused syntax 8\n",
         b"var X\nvalue T.V\ngiven X 5 rect 1\nvalue\nvalue X Y\n"
             => b"refused not_built\nrefused no_such_result T.V\nrefused not_built\nrefused syntax 6\nrefused syntax 9\n",
+        b"undo\nset table T # end\r\nA # ohm\n \t\nundo\nend # A\n \tend\r\nredo\n"
+            => b"refused nothing_to_undo\nrefused not_built\nrefused nothing_to_redo\n",
+        b"table T\nA\nundo\n" => b"refused open_table\n",
+        b"table T" => b"refused open_table\n",
     }
     Ok(())
 }

@@ -1,4 +1,5 @@
 pub mod LineParts
+pub mod ItemSteps
 pub mod LineAnswers
 pub mod RegularLines
 pub mod NoMemory

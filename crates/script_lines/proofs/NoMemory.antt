@@ -12,9 +12,9 @@ use Rattle.answers.specs.Commands.{Add, Set, Remove, Change, Undo, Redo, Mark, R
 use Rattle.answers.specs.declared.command.Query.{Query}
 use Rattle.answers.specs.declared.command.Query.TheVariants.{Value, Dump}
 use Rattle.answers.specs.declared.fault.LineFault.{LineFault}
-use Rattle.answers.specs.declared.fault.LineFault.TheVariants.{Syntax, Row as RowRefused, LongLine as TooLong, NotBuilt, OutOfMemory}
+use Rattle.answers.specs.declared.fault.LineFault.TheVariants.{Syntax, Row as RowRefused, LongLine as LineTooLong, LongTable as TableTooLong, UnclosedTable as TableUnclosed, NotBuilt, OutOfMemory}
 use Rattle.script_lines.specs.declared.item.Item.{Item}
-use Rattle.script_lines.specs.declared.item.Item.TheVariants.{Line, LongLine}
+use Rattle.script_lines.specs.declared.item.Item.TheVariants.{Line, Block, LongLine, LongTable, UnclosedTable}
 use Rattle.script_lines.specs.declared.verb.Verb.{Verb}
 use Rattle.script_lines.specs.declared.verb.Verb.TheVariants.{Set as SetVerb, Remove as RemoveVerb, Undo as UndoVerb, Redo as RedoVerb, Mark as MarkVerb, Restore as RestoreVerb, At as AtVerb, Ask as AskVerb, Row as RowVerb}
 use Rattle.script_lines.specs.Commands.{Read, mapped, alone, no_more, sole_name, is_other_query, value_query, query_with, query_of, query_at, verb_of, row_of_line, command_with, line_with, line_read, command_read}
@@ -23,7 +23,9 @@ abbrev IsNoMemory : LineFault → Type 0
 IsNoMemory OutOfMemory = ⊥
 IsNoMemory (RowRefused fault) = fault ≢ RowMemory
 IsNoMemory (Syntax at) = Unit {0}
-IsNoMemory TooLong = Unit {0}
+IsNoMemory LineTooLong = Unit {0}
+IsNoMemory TableTooLong = Unit {0}
+IsNoMemory TableUnclosed = Unit {0}
 IsNoMemory NotBuilt = Unit {0}
 
 abbrev IfFailed : {A : Type 0} → Read A → Type 0
@@ -96,8 +98,11 @@ line_failed text (w ∷ ws) = mapped_failed Some (command_with (verb_of w.text) 
 
 item_failed : (item : Item) → IfFailed (command_read item)
 unfolding line_read
-item_failed LongLine = tt
 item_failed (Line line) = line_failed (written_part line) (words_from (written_part line) 0)
+item_failed (Block head body) = λ e. cc
+item_failed LongLine = tt
+item_failed LongTable = tt
+item_failed UnclosedTable = tt
 
 pub never_memory : (item : Item) → command_read item ≢ Err OutOfMemory
 never_memory item h = subst IfFailed h (item_failed item)

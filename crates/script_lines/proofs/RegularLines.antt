@@ -7,7 +7,7 @@ use Rattle.sheet_rows.specs.Reading.{Read as ReadRow, row_at}
 use Rattle.sheet_rows.proofs.RegularRows.{row_regular, any_ok}
 use Rattle.answers.specs.Commands.{IsRegularCommand, Add, Set, Remove, Change, Undo, Redo, Mark, Restore, Ask, AskAt}
 use Rattle.script_lines.specs.declared.item.Item.{Item}
-use Rattle.script_lines.specs.declared.item.Item.TheVariants.{Line, LongLine}
+use Rattle.script_lines.specs.declared.item.Item.TheVariants.{Line, Block, LongLine, LongTable, UnclosedTable}
 use Rattle.script_lines.specs.declared.verb.Verb.{Verb}
 use Rattle.script_lines.specs.declared.verb.Verb.TheVariants.{Set as SetVerb, Remove as RemoveVerb, Undo as UndoVerb, Redo as RedoVerb, Mark as MarkVerb, Restore as RestoreVerb, At as AtVerb, Ask as AskVerb, Row as RowVerb}
 use Rattle.script_lines.specs.Commands.{Read, mapped, no_more, sole_name, query_with, query_at, verb_of, row_of_line, command_with, line_with, line_read, command_read}
@@ -41,5 +41,8 @@ line_regular text (w ∷ ws) =
 
 pub read_regular : (item : Item) → IfOk (command_read item) (λ read. IfSome read IsRegularCommand)
 unfolding line_read
-read_regular LongLine = tt
 read_regular (Line line) = line_regular (written_part line) (words_from (written_part line) 0)
+read_regular (Block head body) = tt
+read_regular LongLine = tt
+read_regular LongTable = tt
+read_regular UnclosedTable = tt

@@ -5,13 +5,14 @@ use Rattle.formula_ast.specs.Names.{is_plain_name, is_name}
 use Rattle.line_text.specs.Words.{Word, words_from, written_part}
 use Rattle.sheet_rows.specs.Rows.{Row}
 use Rattle.sheet_rows.specs.Reading.{Read as ReadRow, begin_formula, row_at}
+use Rattle.sheet_rows.specs.declared.fault.RowFault.TheVariants.{NotBuilt as RowNotBuilt}
 use Rattle.answers.specs.Commands.{Command, Add, Set, Remove, Change, Undo, Redo, Mark, Restore, Ask, AskAt}
 use Rattle.answers.specs.declared.command.Query.{Query}
 use Rattle.answers.specs.declared.command.Query.TheVariants.{Value, Dump}
 use Rattle.answers.specs.declared.fault.LineFault.{LineFault}
-use Rattle.answers.specs.declared.fault.LineFault.TheVariants.{Syntax, Row as RowRefused, LongLine as TooLong, NotBuilt}
+use Rattle.answers.specs.declared.fault.LineFault.TheVariants.{Syntax, Row as RowRefused, LongLine as LineTooLong, LongTable as TableTooLong, UnclosedTable as TableUnclosed, NotBuilt}
 use Rattle.script_lines.specs.declared.item.Item.{Item}
-use Rattle.script_lines.specs.declared.item.Item.TheVariants.{Line, LongLine}
+use Rattle.script_lines.specs.declared.item.Item.TheVariants.{Line, Block, LongLine, LongTable, UnclosedTable}
 use Rattle.script_lines.specs.declared.verb.Verb.{Verb}
 use Rattle.script_lines.specs.declared.verb.Verb.TheVariants.{Set as SetVerb, Remove as RemoveVerb, Undo as UndoVerb, Redo as RedoVerb, Mark as MarkVerb, Restore as RestoreVerb, At as AtVerb, Ask as AskVerb, Row as RowVerb}
 
@@ -114,9 +115,13 @@ line_with text (w ∷ ws) = mapped Some (command_with (verb_of w.text) text w ws
 unfoldable pub line_read : List ℕ → Read (Option Command)
 line_read line = line_with (written_part line) (words_from (written_part line) 0)
 
+-- no row is a table yet
 abbrev pub command_read : Item → Read (Option Command)
-command_read LongLine = Err TooLong
 command_read (Line line) = line_read line
+command_read (Block head body) = Err (RowRefused RowNotBuilt)
+command_read LongLine = Err LineTooLong
+command_read LongTable = Err TableTooLong
+command_read UnclosedTable = Err TableUnclosed
 
 -- ---- whether the line is to give a formula row: no other line's reading takes memory
 abbrev pub gives_formula_with : Verb → Word → List Word → Bool
@@ -135,5 +140,8 @@ words_give_formula [] = false
 words_give_formula (w ∷ ws) = gives_formula_with (verb_of w.text) w ws
 
 abbrev pub gives_formula : Item → Bool
-gives_formula LongLine = false
 gives_formula (Line line) = words_give_formula (words_from (written_part line) 0)
+gives_formula (Block head body) = false
+gives_formula LongLine = false
+gives_formula LongTable = false
+gives_formula UnclosedTable = false

@@ -10,7 +10,7 @@ use Rattle.sheet_rows.specs.declared.fault.RowFault.TheVariants.{Syntax, NotNumb
 use Rattle.sheet_rows.specs.declared.edit_fault.EditFault.{EditFault}
 use Rattle.sheet_rows.specs.declared.edit_fault.EditFault.TheVariants.{RowsFull, Duplicate, Unknown, NotEarlier, InUse, OutOfMemory as EditMemory}
 use Rattle.answers.specs.declared.fault.LineFault.{LineFault}
-use Rattle.answers.specs.declared.fault.LineFault.TheVariants.{Syntax as LineSyntax, Row as RowRefused, LongLine, NotBuilt as LineNotBuilt, OutOfMemory as LineMemory}
+use Rattle.answers.specs.declared.fault.LineFault.TheVariants.{Syntax as LineSyntax, Row as RowRefused, LongLine, LongTable, UnclosedTable, NotBuilt as LineNotBuilt, OutOfMemory as LineMemory}
 use Rattle.answers.specs.declared.fault.HistoryFault.{HistoryFault}
 use Rattle.answers.specs.declared.fault.HistoryFault.TheVariants.{NothingToUndo, NothingToRedo, OutOfMemory as HistoryMemory}
 use Rattle.answers.specs.declared.fault.MarkFault.{MarkFault}
@@ -46,6 +46,8 @@ abbrev pub text_of_line_fault : LineFault → List ℕ
 text_of_line_fault (LineSyntax at) = placed (codes "refused syntax ") at
 text_of_line_fault (RowRefused fault) = text_of_row_fault fault
 text_of_line_fault LongLine = codes "refused long_line\n"
+text_of_line_fault LongTable = codes "refused long_table\n"
+text_of_line_fault UnclosedTable = codes "refused open_table\n"
 text_of_line_fault LineNotBuilt = codes "refused not_built\n"
 text_of_line_fault LineMemory = []
 

@@ -1,6 +1,11 @@
-//! The lines of a script: how a text is cut into them, the commands that they are, and the texts of replies.
+//! The lines and table blocks of a script: how a text is cut into them, the commands that they are, and the texts of
+//! replies.
 #![tactic(auto)]
 
+mod block;
+#[cfg(test)]
+mod block_tests;
+mod first;
 mod item;
 mod laws;
 mod print;
@@ -18,4 +23,6 @@ pub use laws::{commands_are_never_out_of_memory, commands_are_regular};
 pub use print::print_reply;
 pub use read::read_command;
 pub use splitter::Splitter;
-pub use worked::{worked_commands, worked_items, worked_refusals, worked_replies};
+pub use worked::{
+    worked_blocks, worked_commands, worked_items, worked_limits, worked_refusals, worked_replies,
+};

@@ -52,6 +52,8 @@ pub(crate) fn put_line_fault(text: &mut Bytes, fault: &LineFault) -> Result<(), 
         LineFault::Syntax(at) => put_placed(text, b"refused syntax ", *at),
         LineFault::Row(fault) => put_row_fault(text, fault),
         LineFault::LongLine => text.extend_from_slice(b"refused long_line\n"),
+        LineFault::LongTable => text.extend_from_slice(b"refused long_table\n"),
+        LineFault::UnclosedTable => text.extend_from_slice(b"refused open_table\n"),
         LineFault::NotBuilt => text.extend_from_slice(b"refused not_built\n"),
         LineFault::OutOfMemory => Ok(()),
     }

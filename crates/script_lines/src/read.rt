@@ -100,7 +100,9 @@ fn read_line(alloc: Global, line: &[u8]) -> Result<Option<Command>, LineFault>
 ///
 /// # Errors
 ///
-/// [`LineFault::LongLine`] for a line that is too long; the first word or token that breaks a rule, with its
+/// [`LineFault::LongLine`] for a line, and [`LineFault::LongTable`] for a block that is too long;
+/// [`LineFault::UnclosedTable`] for a block that the end of the input ended; [`RowFault::NotBuilt`] for any other block,
+/// as no row is a table yet; the first word or token that breaks a rule, with its
 /// place in the line, or the rule alone where the row as a whole breaks it; out of memory for lines that are to
 /// give a formula row alone.
 pub fn read_command(alloc: Global, item: &Item) -> Result<Option<Command>, LineFault>
@@ -110,6 +112,9 @@ pub fn read_command(alloc: Global, item: &Item) -> Result<Option<Command>, LineF
 {
     match item {
         Item::Line(line) => read_line(alloc, line.as_slice()),
+        Item::Block { .. } => Err(LineFault::Row(RowFault::NotBuilt)),
         Item::LongLine => Err(LineFault::LongLine),
+        Item::LongTable => Err(LineFault::LongTable),
+        Item::UnclosedTable => Err(LineFault::UnclosedTable),
     }
 }

@@ -1,15 +1,16 @@
-//! A text is cut into its lines as its pieces come.
+//! A text is cut into its items as its pieces come.
 
-ghost use Rattle.std.specs.Prelude.{◌≡◌, ◌+◌, ◌<◌, [], ◌∷◌, ◌++◌, List, ℕ, length, take, drop, IfSome, IfNone, IfOk, OnOk, OnErr};
-ghost use Rattle.script_lines.specs.Items.{parts_of, items_of, whole_items_of};
+ghost use Rattle.std.specs.Prelude.{◌≡◌, [], ◌∷◌, ◌++◌, List, ℕ, IfSome, IfNone, IfOk, OnOk, OnErr};
+ghost use Rattle.script_lines.specs.Items.{items_of, whole_items_of};
 
-use crate::item::{Item, ended_item, last_item};
-use line_text::OutOfMemory;
+use crate::first::{first_item, last_item};
+use crate::item::Item;
+use line_text::{OutOfMemory, after};
 use std::alloc::Global;
 use std::marker::Model;
 
-/// Takes a text in pieces and gives its lines. Contracts see it as the bytes that it was fed and that no
-/// line took.
+/// Takes a text in pieces and gives its items. Contracts see it as the bytes that it was fed and that no
+/// item took.
 #[derive(Drop)]
 pub struct Splitter {
     alloc: Global,
@@ -25,21 +26,6 @@ impl Model for Splitter {
     ghost view = { λ s. drop s.at s.vec.items };
 
     ghost invariant = { λ s. s.at ≤ length s.vec.items };
-}
-
-/// The number of bytes before the first line feed, and `None` where there is none.
-fn line_len(text: &[u8]) -> Option<usize>
-    ensures more { IfSome result (λ len. (rest : List ℕ)
-        → parts_of (text.now ++ rest) ≡ take len text.now ∷ parts_of (drop (len + 1) text.now ++ rest)) }
-    ensures within { IfSome result (λ len. len < length text.now) }
-    ensures none { IfNone result (parts_of text.now ≡ text.now ∷ []) }
-{
-    for (i, byte) in text.iter().enumerate() {
-        if *byte == b'\n' {
-            return Some(i);
-        }
-    }
-    None
 }
 
 impl Splitter {
@@ -58,7 +44,7 @@ impl Splitter {
         })
     }
 
-    // Gives up the room of the lines that were taken.
+    // Gives up the room of the items that were taken.
     fn forget_taken(&mut self) -> Result<(), OutOfMemory>
         ensures { self.new ≡ self.old }
     {
@@ -85,11 +71,15 @@ impl Splitter {
         Ok(())
     }
 
-    /// Gives the next line that a line feed ended, and `None` exactly where none is left.
+    /// Gives the next item that is whole without the end of the input, and `None` exactly where none is left.
+    ///
+    /// It looks at the bytes of the item it gives, and, where it gives none, at all that are left: of an open block
+    /// too, from its first line on. So all calls together take a step for each byte that was fed, and as many again
+    /// as are left at each answer `None`.
     ///
     /// # Errors
     ///
-    /// [`OutOfMemory`] where there is no memory for the line; the splitter stays as it was.
+    /// [`OutOfMemory`] where there is no memory for the item; the splitter stays as it was.
     pub fn take(&mut self) -> Result<Option<Item>, OutOfMemory>
         ensures whole { IfOk result (λ taken. IfSome taken (λ item. whole_items_of self.old ≡ item ∷ whole_items_of self.new)) }
         ensures items { IfOk result (λ taken. IfSome taken (λ item. items_of self.old ≡ item ∷ items_of self.new)) }
@@ -104,30 +94,23 @@ impl Splitter {
         ensures kept { IfOk result (λ taken. IfNone taken (self.new ≡ self.old)) }
         ensures err { OnErr result (self.new ≡ self.old) }
     {
-        let left = &self.vec[self.at..];
-        let Some(len) = line_len(left) else {
+        let Some(first) = first_item(self.alloc, after(&self.vec, self.at))? else {
             return Ok(None);
         };
-        let item = ended_item(self.alloc, &left[..len])?;
-        self.at += len + 1;
-        Ok(Some(item))
+        self.at += first.len;
+        Ok(Some(first.item))
     }
 
-    /// The line that the end of the input ended, and `None` where the last byte was a line feed or there
-    /// was none.
+    /// The item that the end of the input makes whole, and `None` where there is none.
     ///
     /// # Errors
     ///
-    /// [`OutOfMemory`] where there is no memory for the line.
+    /// [`OutOfMemory`] where there is no memory for the item.
     pub fn finish(self) -> Result<Option<Item>, OutOfMemory>
         requires { whole_items_of self ≡ [] }
         ensures some { IfOk result (λ last. IfSome last (λ item. items_of self ≡ item ∷ [])) }
         ensures none { IfOk result (λ last. IfNone last (items_of self ≡ [])) }
     {
-        let left = &self.vec[self.at..];
-        if left.is_empty() {
-            return Ok(None);
-        }
-        Ok(Some(last_item(self.alloc, left)?))
+        last_item(self.alloc, after(&self.vec, self.at))
     }
 }

@@ -171,6 +171,27 @@ fn lines_that_are_no_commands(rt: HostRuntime) -> Result<(), Fail> {
 }
 
 #[test]
+fn blocks_that_are_no_commands(rt: HostRuntime) -> Result<(), Fail> {
+    let alloc = rt.alloc();
+    let head = Bytes::from_slice(alloc, b"set table T")?;
+    let body = Bytes::from_slice(alloc, b"A\n1\n2\n")?;
+    for (item, fault) in [
+        (
+            Item::Block { head, body },
+            LineFault::Row(RowFault::NotBuilt),
+        ),
+        (Item::LongTable, LineFault::LongTable),
+        (Item::UnclosedTable, LineFault::UnclosedTable),
+    ] {
+        let Err(found) = read_command(alloc, &item) else {
+            panic!(rt; "a command");
+        };
+        assert_eq!(rt; found, fault);
+    }
+    Ok(())
+}
+
+#[test]
 fn lines_that_are_commands(rt: HostRuntime) -> Result<(), Fail> {
     for (line, does, name) in READ {
         let item = Item::Line(Bytes::from_slice(rt.alloc(), line.as_bytes())?);
@@ -211,6 +232,10 @@ fn replies_are_printed(rt: HostRuntime) -> Result<(), Fail> {
             "refused long_line\n"
         )?
     );
+    let fault = LineFault::LongTable;
+    assert!(rt; prints(alloc, Reply::Line(fault), "refused long_table\n")?);
+    let fault = LineFault::UnclosedTable;
+    assert!(rt; prints(alloc, Reply::Line(fault), "refused open_table\n")?);
     assert!(rt; prints(alloc, Reply::Line(power), "refused bad_power 300\n")?);
     let fault = EditFault::NotEarlier(name);
     assert!(rt; prints(alloc, Reply::Edit(fault), "refused not_earlier Y\n")?);

@@ -1,7 +1,7 @@
-//! Worked lines, commands and replies. Each function has an empty body, and its clauses are theorems on the
+//! Worked lines, blocks, commands and replies. Each function has an empty body, and its clauses are theorems on the
 //! definitions.
 
-ghost use Rattle.std.specs.Prelude.{◌≡◌, [], ◌∷◌, pos, Some, None, Ok, Err, codes};
+ghost use Rattle.std.specs.Prelude.{◌≡◌, ℕ, List, [], ◌∷◌, true, false, length, pos, Some, None, Ok, Err, codes};
 ghost use Rattle.sheet_rows.specs.Rows.{Given, Formula};
 ghost use Rattle.formula_ast.specs.Trees.{Number};
 ghost use Rattle.type_b.specs.declared.shape.Shape.TheVariants.{Exact};
@@ -18,8 +18,8 @@ ghost use Rattle.answers.specs.declared.fault.AskFault.{AskFault};
 ghost use Rattle.answers.specs.declared.reply.Answer.{Answer};
 ghost use Rattle.answers.specs.declared.reply.Reply.{Reply};
 ghost use Rattle.fixed_interval.specs.declared.faults.ArithFault.{ArithFault};
-ghost use Rattle.script_lines.specs.declared.item.Item.TheVariants.{Line, LongLine};
-ghost use Rattle.script_lines.specs.Items.{items_of, whole_items_of};
+ghost use Rattle.script_lines.specs.declared.item.Item.TheVariants.{Line, Block, LongLine, LongTable, UnclosedTable};
+ghost use Rattle.script_lines.specs.Items.{is_long, block_item, items_of, whole_items_of};
 ghost use Rattle.script_lines.specs.Commands.{command_read};
 ghost use Rattle.script_lines.specs.Texts.{text_of_reply};
 
@@ -34,6 +34,34 @@ pub fn worked_items()
     ensures two_returns { items_of (codes "undo\r\r\n") ≡ Line (codes "undo\r") ∷ [] }
     ensures last_return { items_of (codes "undo\r") ≡ Line (codes "undo\r") ∷ [] }
     ensures inner_return { items_of (codes "a\rb\n") ≡ Line (codes "a\rb") ∷ [] }
+{}
+
+/// Texts with blocks.
+pub fn worked_blocks()
+    ensures table { items_of (codes "table T\na\r\nend\nundo") ≡ Block (codes "table T") (codes "a\r\n") ∷ Line (codes "undo") ∷ [] }
+    ensures set { items_of (codes " set\ttable # T\r\n1\n2\nend") ≡ Block (codes " set\ttable # T") (codes "1\n2\n") ∷ [] }
+    ensures none { items_of (codes "tables\n# table\nX table\nset\n") ≡ Line (codes "tables") ∷ Line (codes "# table") ∷ Line (codes "X table") ∷ Line (codes "set") ∷ [] }
+    ensures no_set { items_of (codes "settable\nset X table") ≡ Line (codes "settable") ∷ Line (codes "set X table") ∷ [] }
+    ensures padded { items_of (codes "table\n \t\rend\r\t \nend\n") ≡ Block (codes "table") [] ∷ Line (codes "end") ∷ [] }
+    ensures no_comment { items_of (codes "table\nend # x\nend#\n# end\nend\n") ≡ Block (codes "table") (codes "end # x\nend#\n# end\n") ∷ [] }
+    ensures no_end { items_of (codes "table\nen\nends\nEND\nend\n") ≡ Block (codes "table") (codes "en\nends\nEND\n") ∷ [] }
+    ensures quoted { items_of (codes "table\n\"\nend\n\"") ≡ Block (codes "table") (codes "\"\n") ∷ Line (codes "\"") ∷ [] }
+    ensures inner { items_of (codes "table\ntable\nend\n") ≡ Block (codes "table") (codes "table\n") ∷ [] }
+    ensures last { items_of (codes "table\n1\n end\r") ≡ Block (codes "table") (codes "1\n") ∷ [] }
+    ensures last_return { items_of (codes "table\r") ≡ Line (codes "table\r") ∷ [] }
+    ensures unclosed_head { items_of (codes "undo\ntable") ≡ Line (codes "undo") ∷ UnclosedTable ∷ [] }
+    ensures unclosed { items_of (codes "table\n") ≡ UnclosedTable ∷ [] }
+    ensures unclosed_lines { items_of (codes "table\n1\nend x") ≡ UnclosedTable ∷ [] }
+    ensures whole { whole_items_of (codes "table\nend\ntable\nend") ≡ Block (codes "table") [] ∷ [] }
+    ensures whole_left { whole_items_of (codes "undo\ntable\nundo\n") ≡ Line (codes "undo") ∷ [] }
+{}
+
+/// The most bytes of a line and of a block, and one more.
+pub fn worked_limits()
+    ensures line { (line : List ℕ) → length line ≡ 65536 → is_long line ≡ false }
+    ensures long_line { (line : List ℕ) → length line ≡ 65537 → is_long line ≡ true }
+    ensures block { (head body : List ℕ) → length body ≡ 1048576 → block_item head body ≡ Block head body }
+    ensures long_block { (head body : List ℕ) → length body ≡ 1048577 → block_item head body ≡ LongTable }
 {}
 
 /// Lines that are commands, or none.
@@ -57,6 +85,9 @@ pub fn worked_commands()
 /// Lines that are no commands.
 pub fn worked_refusals()
     ensures long { command_read LongLine ≡ Err LineFault.LongLine }
+    ensures long_table { command_read LongTable ≡ Err LineFault.LongTable }
+    ensures unclosed { command_read UnclosedTable ≡ Err LineFault.UnclosedTable }
+    ensures table { command_read (Block (codes "table T") (codes "A\n1\n2\n")) ≡ Err (LineFault.Row RowFault.NotBuilt) }
     ensures returned { command_read (Line (codes "undo\r")) ≡ Err (LineFault.Row (RowFault.Syntax 1)) }
     ensures superfluous { command_read (Line (codes "dump x")) ≡ Err (LineFault.Syntax 6) }
     ensures counted { command_read (Line (codes "undo 1")) ≡ Err (LineFault.Syntax 6) }
@@ -80,6 +111,8 @@ pub fn worked_replies()
     ensures placed { text_of_reply (Reply.Line (LineFault.Syntax 12)) ≡ codes "refused syntax 12\n" }
     ensures row { text_of_reply (Reply.Line (LineFault.Row (RowFault.TooManyNodes 300))) ≡ codes "refused too_many_nodes 300\n" }
     ensures long { text_of_reply (Reply.Line LineFault.LongLine) ≡ codes "refused long_line\n" }
+    ensures long_table { text_of_reply (Reply.Line LineFault.LongTable) ≡ codes "refused long_table\n" }
+    ensures open_table { text_of_reply (Reply.Line LineFault.UnclosedTable) ≡ codes "refused open_table\n" }
     ensures full { text_of_reply (Reply.Edit EditFault.RowsFull) ≡ codes "refused rows_full\n" }
     ensures used { text_of_reply (Reply.Edit (EditFault.InUse (codes "Y"))) ≡ codes "refused in_use Y\n" }
     ensures earlier { text_of_reply (Reply.Edit (EditFault.NotEarlier (codes "Y"))) ≡ codes "refused not_earlier Y\n" }

@@ -14,33 +14,34 @@ use Rattle.formula_ast.specs.Reading.{reading_of}
 use Rattle.formula_box.specs.Values.{span_of}
 use Rattle.sheet_rows.specs.Reading.{row_read}
 use Rattle.value_cache.specs.Evaluations.{evaluation_of}
+use Rattle.script_lines.specs.Blocks.{opens_block, ends_block}
 use Rattle.script_lines.specs.Commands.{line_read}
 use Rattle.gum_cli.proofs.worked.worked_verdicts.Goals as goal
 
 pub returns-clause-duplicate : goal.returns-clause-duplicate
-unfolding digits line_read row_read reading_of parsed span_of evaluation_of outward quotient power_span holds_zero min_ℚ max_ℚ up down cut_off is_in_range value_of ◌+ℚ◌ ◌*ℚ◌ inv_ℚ neg_ℚ is_at_most_ℚ floor_ℚ floor is_at_most inverse ◌⊕◌ ◌⊗◌ fraction.negated /_rec₂ /_rec
+unfolding digits opens_block ends_block line_read row_read reading_of parsed span_of evaluation_of outward quotient power_span holds_zero min_ℚ max_ℚ up down cut_off is_in_range value_of ◌+ℚ◌ ◌*ℚ◌ inv_ℚ neg_ℚ is_at_most_ℚ floor_ℚ floor is_at_most inverse ◌⊕◌ ◌⊗◌ fraction.negated /_rec₂ /_rec
 returns-clause-duplicate c = refl
 
 pub returns-clause-duplicate_first : goal.returns-clause-duplicate_first
-unfolding digits line_read row_read reading_of parsed span_of evaluation_of outward quotient power_span holds_zero min_ℚ max_ℚ up down cut_off is_in_range value_of ◌+ℚ◌ ◌*ℚ◌ inv_ℚ neg_ℚ is_at_most_ℚ floor_ℚ floor is_at_most inverse ◌⊕◌ ◌⊗◌ fraction.negated /_rec₂ /_rec
+unfolding digits opens_block ends_block line_read row_read reading_of parsed span_of evaluation_of outward quotient power_span holds_zero min_ℚ max_ℚ up down cut_off is_in_range value_of ◌+ℚ◌ ◌*ℚ◌ inv_ℚ neg_ℚ is_at_most_ℚ floor_ℚ floor is_at_most inverse ◌⊕◌ ◌⊗◌ fraction.negated /_rec₂ /_rec
 returns-clause-duplicate_first c = refl
 
 pub returns-clause-unknown : goal.returns-clause-unknown
-unfolding digits line_read row_read reading_of parsed span_of evaluation_of outward quotient power_span holds_zero min_ℚ max_ℚ up down cut_off is_in_range value_of ◌+ℚ◌ ◌*ℚ◌ inv_ℚ neg_ℚ is_at_most_ℚ floor_ℚ floor is_at_most inverse ◌⊕◌ ◌⊗◌ fraction.negated /_rec₂ /_rec
+unfolding digits opens_block ends_block line_read row_read reading_of parsed span_of evaluation_of outward quotient power_span holds_zero min_ℚ max_ℚ up down cut_off is_in_range value_of ◌+ℚ◌ ◌*ℚ◌ inv_ℚ neg_ℚ is_at_most_ℚ floor_ℚ floor is_at_most inverse ◌⊕◌ ◌⊗◌ fraction.negated /_rec₂ /_rec
 returns-clause-unknown c = refl
 
 pub returns-clause-not_earlier : goal.returns-clause-not_earlier
-unfolding digits line_read row_read reading_of parsed span_of evaluation_of outward quotient power_span holds_zero min_ℚ max_ℚ up down cut_off is_in_range value_of ◌+ℚ◌ ◌*ℚ◌ inv_ℚ neg_ℚ is_at_most_ℚ floor_ℚ floor is_at_most inverse ◌⊕◌ ◌⊗◌ fraction.negated /_rec₂ /_rec
+unfolding digits opens_block ends_block line_read row_read reading_of parsed span_of evaluation_of outward quotient power_span holds_zero min_ℚ max_ℚ up down cut_off is_in_range value_of ◌+ℚ◌ ◌*ℚ◌ inv_ℚ neg_ℚ is_at_most_ℚ floor_ℚ floor is_at_most inverse ◌⊕◌ ◌⊗◌ fraction.negated /_rec₂ /_rec
 returns-clause-not_earlier c = refl
 
 pub returns-clause-in_use : goal.returns-clause-in_use
-unfolding digits line_read row_read reading_of parsed span_of evaluation_of outward quotient power_span holds_zero min_ℚ max_ℚ up down cut_off is_in_range value_of ◌+ℚ◌ ◌*ℚ◌ inv_ℚ neg_ℚ is_at_most_ℚ floor_ℚ floor is_at_most inverse ◌⊕◌ ◌⊗◌ fraction.negated /_rec₂ /_rec
+unfolding digits opens_block ends_block line_read row_read reading_of parsed span_of evaluation_of outward quotient power_span holds_zero min_ℚ max_ℚ up down cut_off is_in_range value_of ◌+ℚ◌ ◌*ℚ◌ inv_ℚ neg_ℚ is_at_most_ℚ floor_ℚ floor is_at_most inverse ◌⊕◌ ◌⊗◌ fraction.negated /_rec₂ /_rec
 returns-clause-in_use c = refl
 
 pub returns-clause-nothing : goal.returns-clause-nothing
-unfolding digits line_read row_read reading_of parsed span_of evaluation_of outward quotient power_span holds_zero min_ℚ max_ℚ up down cut_off is_in_range value_of ◌+ℚ◌ ◌*ℚ◌ inv_ℚ neg_ℚ is_at_most_ℚ floor_ℚ floor is_at_most inverse ◌⊕◌ ◌⊗◌ fraction.negated /_rec₂ /_rec
+unfolding digits opens_block ends_block line_read row_read reading_of parsed span_of evaluation_of outward quotient power_span holds_zero min_ℚ max_ℚ up down cut_off is_in_range value_of ◌+ℚ◌ ◌*ℚ◌ inv_ℚ neg_ℚ is_at_most_ℚ floor_ℚ floor is_at_most inverse ◌⊕◌ ◌⊗◌ fraction.negated /_rec₂ /_rec
 returns-clause-nothing c = refl
 
 pub returns-clause-no_such_result : goal.returns-clause-no_such_result
-unfolding digits line_read row_read reading_of parsed span_of evaluation_of outward quotient power_span holds_zero min_ℚ max_ℚ up down cut_off is_in_range value_of ◌+ℚ◌ ◌*ℚ◌ inv_ℚ neg_ℚ is_at_most_ℚ floor_ℚ floor is_at_most inverse ◌⊕◌ ◌⊗◌ fraction.negated /_rec₂ /_rec
+unfolding digits opens_block ends_block line_read row_read reading_of parsed span_of evaluation_of outward quotient power_span holds_zero min_ℚ max_ℚ up down cut_off is_in_range value_of ◌+ℚ◌ ◌*ℚ◌ inv_ℚ neg_ℚ is_at_most_ℚ floor_ℚ floor is_at_most inverse ◌⊕◌ ◌⊗◌ fraction.negated /_rec₂ /_rec
 returns-clause-no_such_result c = refl

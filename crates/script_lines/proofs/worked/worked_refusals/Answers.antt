@@ -68,3 +68,15 @@ returns-clause-other_row c = refl
 pub returns-clause-unknown : goal.returns-clause-unknown
 unfolding line_read row_read reading_of parsed
 returns-clause-unknown c = refl
+
+pub returns-clause-long_table : goal.returns-clause-long_table
+unfolding line_read row_read reading_of parsed
+returns-clause-long_table c = refl
+
+pub returns-clause-unclosed : goal.returns-clause-unclosed
+unfolding line_read row_read reading_of parsed
+returns-clause-unclosed c = refl
+
+pub returns-clause-table : goal.returns-clause-table
+unfolding line_read row_read reading_of parsed
+returns-clause-table c = refl

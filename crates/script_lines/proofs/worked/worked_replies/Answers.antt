@@ -65,3 +65,11 @@ returns-clause-no_rows c = refl
 pub returns-clause-rows : goal.returns-clause-rows
 unfolding digits
 returns-clause-rows c = refl
+
+pub returns-clause-long_table : goal.returns-clause-long_table
+unfolding digits
+returns-clause-long_table c = refl
+
+pub returns-clause-open_table : goal.returns-clause-open_table
+unfolding digits
+returns-clause-open_table c = refl

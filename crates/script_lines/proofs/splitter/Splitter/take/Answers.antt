@@ -1,32 +1,19 @@
-use Rattle.std.proofs.Common.{drop, ap, ◌∙◌}
-use Rattle.std.proofs.lemmas.List.{take_rest}
-use Rattle.script_lines.proofs.LineParts.{items_more, whole_more, items_step, whole_step}
+use Rattle.std.proofs.Common.{◌∷◌, [], drop, IfSome, ap, ◌∙◌, subst}
+use Rattle.script_lines.specs.Items.{Outside, last_items, no_items}
+use Rattle.script_lines.specs.Yields.{Yields}
+use Rattle.script_lines.proofs.ItemSteps.{item_taken}
 use Rattle.script_lines.proofs.splitter.Splitter.take.Goals as goal
 
 pub returns-clause-whole : goal.returns-clause-whole
 returns-clause-whole c =
-    let at = c.self.inside.at in
-    rw c.in_ok-item.ensures
-    (whole_step c.self.inside.vec.items _ _ at c.in-Some.len
-    (take_rest c.deref.result.now at ∙ ap (drop at) c.deref.ensures.value) c.self.view_is c.in-Some.ensures.more)
+    item_taken c.self.inside.vec.items c.args.self.now c.after.result.now c.self.inside.at c.in-Some.first.len c.in-Some.first.item (c.after.ensures.is ∙ ap (drop c.self.inside.at) c.deref.ensures.value) c.self.view_is
+    (subst (λ o. IfSome o (λ first. Yields Outside c.after.result.now (first.item ∷ []) Outside (drop first.len c.after.result.now)))
+    c.in-Some.is c.in_ok-first.ensures.some)
+    no_items
 
 pub returns-clause-items : goal.returns-clause-items
 returns-clause-items c =
-    let at = c.self.inside.at in
-    rw c.in_ok-item.ensures
-    (items_step c.self.inside.vec.items _ _ at c.in-Some.len
-    (take_rest c.deref.result.now at ∙ ap (drop at) c.deref.ensures.value) c.self.view_is c.in-Some.ensures.more)
-
-pub returns-clause-whole_more : goal.returns-clause-whole_more
-returns-clause-whole_more c =
-    let at = c.self.inside.at in
-    rw c.in_ok-item.ensures
-    (whole_more c.self.inside.vec.items _ _ at c.in-Some.len
-    (take_rest c.deref.result.now at ∙ ap (drop at) c.deref.ensures.value) c.self.view_is c.in-Some.ensures.more)
-
-pub returns-clause-items_more : goal.returns-clause-items_more
-returns-clause-items_more c =
-    let at = c.self.inside.at in
-    rw c.in_ok-item.ensures
-    (items_more c.self.inside.vec.items _ _ at c.in-Some.len
-    (take_rest c.deref.result.now at ∙ ap (drop at) c.deref.ensures.value) c.self.view_is c.in-Some.ensures.more)
+    item_taken c.self.inside.vec.items c.args.self.now c.after.result.now c.self.inside.at c.in-Some.first.len c.in-Some.first.item (c.after.ensures.is ∙ ap (drop c.self.inside.at) c.deref.ensures.value) c.self.view_is
+    (subst (λ o. IfSome o (λ first. Yields Outside c.after.result.now (first.item ∷ []) Outside (drop first.len c.after.result.now)))
+    c.in-Some.is c.in_ok-first.ensures.some)
+    last_items

@@ -1,6 +1,6 @@
 use Rattle.formula_ast.proofs.Cuts.{cut_nowhere}
 use Rattle.script_lines.proofs.LineParts.{more_parts}
-use Rattle.script_lines.proofs.splitter.line_len.Goals as goal
+use Rattle.script_lines.proofs.first.line_len.Goals as goal
 
 pub returns-then-byte-eq10-clause-more : goal.returns-then-byte-eq10-clause-more
 returns-then-byte-eq10-clause-more c =
