@@ -55,13 +55,14 @@ fn ends_with_last(mut splitter: Splitter) -> Result<bool, Fail> {
 
 #[test]
 fn items_of_a_text_that_comes_in_two_pieces(rt: HostRuntime) -> Result<(), Fail> {
+    let text = TEXT.as_slice();
     for cut in 0..86 {
         let mut splitter = Splitter::new(rt.alloc())?;
-        splitter.feed(&TEXT[..cut])?;
+        splitter.feed(&text[..cut])?;
         let Some(count) = take_all(&mut splitter, 0)? else {
             panic!(rt; "another item before {cut}");
         };
-        splitter.feed(&TEXT[cut..])?;
+        splitter.feed(&text[cut..])?;
         assert_eq!(rt; take_all(&mut splitter, count)?, Some(4), "after {cut}");
         assert!(rt; ends_with_last(splitter)?, "after {cut}");
     }

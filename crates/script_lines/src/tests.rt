@@ -88,7 +88,7 @@ fn lines_of_the_most_bytes_and_one_more(rt: HostRuntime) -> Result<(), Fail> {
     for (long, len) in [(false, 65_536), (true, 0), (false, 65_535), (true, 0)] {
         let item = splitter.take()?;
         assert_eq!(rt; is_long(&item), long);
-        if let Some(Item::Line(line)) = item {
+        if let Some(Item::Line(line)) = &item {
             assert_eq!(rt; line.as_slice().len(), len);
         }
     }
