@@ -15,7 +15,7 @@ use Rattle.answers.specs.declared.reply.Reply.{Reply}
 use Rattle.answers.specs.declared.reply.Reply.TheVariants.{Fine, Edit as EditRefused, Ask as AskRefused, Said}
 use Rattle.edit_session.specs.Machine.{State, last_of, verdict, edited, undone, may_mark, marked, kept_as, reply_at}
 use Rattle.edit_session.specs.Replies.{reply_to}
-use Rattle.edit_session.specs.Calls.{IsEditReply, IsAskReply, is_refusal, may_be_out_of_memory, Does, Gives}
+use Rattle.edit_session.specs.Calls.{IsEditReply, IsAskReply, is_refusal, may_be_out_of_memory, Does, RepliesWith}
 
 -- ---- memory for a step back
 last_there : (sheet : Sheet) (sheets : List Sheet) → is_some (slice_get (sheet ∷ sheets) (length sheets)) ≡ true
@@ -60,16 +60,16 @@ edit_refused state edit fault h =
 -- ---- queries
 -- a query that is out of memory gives no reply
 pub not_asked : (wanted : Reply) (r : Result Answer AskFault) → IsErrAnd r (λ fault. fault ≡ NoMemoryToAsk) → IsTrue (not (is_refusal wanted))
-    → (reply : Option Reply) → IsAskReply r reply → Gives reply wanted
+    → (reply : Option Reply) → IsAskReply r reply → RepliesWith reply wanted
 not_asked wanted (Ok answer) h k = absurd h
 not_asked wanted (Err fault) h k =
-    reply_refused NoMemoryToAsk Said AskRefused (λ reply. Gives reply wanted) fault (λ e. k) (λ n. absurd (n h))
+    reply_refused NoMemoryToAsk Said AskRefused (λ reply. RepliesWith reply wanted) fault (λ e. k) (λ n. absurd (n h))
 
-pub ask_does : (state : State) (query : Query) (given : Option Reply) → Gives given (reply_to state.present query) → Does state (Ask query) state given
+pub ask_does : (state : State) (query : Query) (given : Option Reply) → RepliesWith given (reply_to state.present query) → Does state (Ask query) state given
 ask_does state query None h = (refl, h)
 ask_does state query (Some reply) h = ap (λ r. (state, r)) (sym h)
 
 pub ask_at_does : (state : State) (name : List ℕ) (query : Query) (given : Option Reply)
-    → Gives given (reply_at name (kept_as state.marks name) query) → Does state (AskAt name query) state given
+    → RepliesWith given (reply_at name (kept_as state.marks name) query) → Does state (AskAt name query) state given
 ask_at_does state name query None h = (refl, h)
 ask_at_does state name query (Some reply) h = ap (λ r. (state, r)) (sym h)

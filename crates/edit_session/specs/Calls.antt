@@ -55,6 +55,6 @@ Does old command new None = (new ≡ old) × IsTrue (may_be_out_of_memory old co
 Does old command new (Some reply) = step old command ≡ (new, reply)
 
 -- the call gives this reply, or finds no memory for one that is no refusal
-abbrev pub Gives : Option Reply → Reply → Type 0
-Gives None reply = IsTrue (not (is_refusal reply))
-Gives (Some given) reply = given ≡ reply
+abbrev pub RepliesWith : Option Reply → Reply → Type 0
+RepliesWith None reply = IsTrue (not (is_refusal reply))
+RepliesWith (Some given) reply = given ≡ reply

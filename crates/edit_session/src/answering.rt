@@ -5,7 +5,7 @@ ghost use Rattle.answers.specs.Replies.{IsRegularAnswer};
 ghost use Rattle.answers.specs.declared.reply.Reply.{Reply};
 ghost use Rattle.edit_session.specs.Replies.{reply_to};
 ghost use Rattle.edit_session.specs.Sound.{IsSoundAnswer};
-ghost use Rattle.edit_session.specs.Calls.{IsAskReply, Gives};
+ghost use Rattle.edit_session.specs.Calls.{IsAskReply, RepliesWith};
 
 use crate::valuing::values_of;
 use answers::{Answer, AskFault, Query};
@@ -28,7 +28,7 @@ pub(crate) fn ask_sheet<L: Ledger>(
     query: &Query,
     steps: &mut Steps<L>,
 ) -> Result<Answer, AskFault>
-    ensures reply { (reply : Option Reply) → IsAskReply result reply → Gives reply (reply_to sheet.now query.now) }
+    ensures reply { (reply : Option Reply) → IsAskReply result reply → RepliesWith reply (reply_to sheet.now query.now) }
     ensures sound { IfOk result (λ answer. IsSoundAnswer sheet.now answer) }
     ensures regular { IfOk result IsRegularAnswer }
 {
@@ -48,7 +48,7 @@ fn value_of<L: Ledger>(
     name: Name,
     steps: &mut Steps<L>,
 ) -> Result<Answer, AskFault>
-    ensures reply { (reply : Option Reply) → IsAskReply result reply → Gives reply (reply_to sheet.now (AskValue name)) }
+    ensures reply { (reply : Option Reply) → IsAskReply result reply → RepliesWith reply (reply_to sheet.now (AskValue name)) }
     ensures sound { IfOk result (λ answer. IsSoundAnswer sheet.now answer) }
     ensures regular { IfOk result IsRegularAnswer }
 {
