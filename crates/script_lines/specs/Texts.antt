@@ -6,7 +6,7 @@ use Rattle.fixed_interval.specs.declared.faults.ArithFault.TheVariants.{ZeroDivi
 use Rattle.sheet_rows.specs.Rows.{Row}
 use Rattle.sheet_rows.specs.Printing.{printed}
 use Rattle.sheet_rows.specs.declared.fault.RowFault.{RowFault}
-use Rattle.sheet_rows.specs.declared.fault.RowFault.TheVariants.{Syntax, NotNumber, NumberRange, UnknownFunction, BadPower, TooDeep, TooManyNodes, Negative, NotBuilt, OutOfMemory}
+use Rattle.sheet_rows.specs.declared.fault.RowFault.TheVariants.{Syntax, NotNumber, NumberRange, UnknownFunction, BadPower, TooDeep, TooManyNodes, Negative, ZeroK, Beta, Level, DofRange, NotBuilt, OutOfMemory}
 use Rattle.sheet_rows.specs.declared.edit_fault.EditFault.{EditFault}
 use Rattle.sheet_rows.specs.declared.edit_fault.EditFault.TheVariants.{RowsFull, Duplicate, Unknown, NotEarlier, InUse, OutOfMemory as EditMemory}
 use Rattle.answers.specs.declared.fault.LineFault.{LineFault}
@@ -39,6 +39,10 @@ text_of_row_fault (BadPower at) = placed (codes "refused bad_power ") at
 text_of_row_fault (TooDeep at) = placed (codes "refused too_deep ") at
 text_of_row_fault (TooManyNodes at) = placed (codes "refused too_many_nodes ") at
 text_of_row_fault Negative = codes "refused negative\n"
+text_of_row_fault ZeroK = codes "refused zero_k\n"
+text_of_row_fault Beta = codes "refused beta\n"
+text_of_row_fault Level = codes "refused level\n"
+text_of_row_fault DofRange = codes "refused dof_range\n"
 text_of_row_fault NotBuilt = codes "refused not_built\n"
 text_of_row_fault OutOfMemory = []
 

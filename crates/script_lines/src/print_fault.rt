@@ -39,6 +39,10 @@ fn put_row_fault(text: &mut Bytes, fault: &RowFault) -> Result<(), OutOfMemory>
         RowFault::TooDeep(at) => put_placed(text, b"refused too_deep ", *at),
         RowFault::TooManyNodes(at) => put_placed(text, b"refused too_many_nodes ", *at),
         RowFault::Negative => text.extend_from_slice(b"refused negative\n"),
+        RowFault::ZeroK => text.extend_from_slice(b"refused zero_k\n"),
+        RowFault::Beta => text.extend_from_slice(b"refused beta\n"),
+        RowFault::Level => text.extend_from_slice(b"refused level\n"),
+        RowFault::DofRange => text.extend_from_slice(b"refused dof_range\n"),
         RowFault::NotBuilt => text.extend_from_slice(b"refused not_built\n"),
         RowFault::OutOfMemory => Ok(()),
     }

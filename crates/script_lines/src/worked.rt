@@ -110,6 +110,10 @@ pub fn worked_replies()
     ensures fine { text_of_reply Reply.Fine ≡ codes "ok\n" }
     ensures placed { text_of_reply (Reply.Line (LineFault.Syntax 12)) ≡ codes "refused syntax 12\n" }
     ensures row { text_of_reply (Reply.Line (LineFault.Row (RowFault.TooManyNodes 300))) ≡ codes "refused too_many_nodes 300\n" }
+    ensures zero_k { text_of_reply (Reply.Line (LineFault.Row RowFault.ZeroK)) ≡ codes "refused zero_k\n" }
+    ensures beta { text_of_reply (Reply.Line (LineFault.Row RowFault.Beta)) ≡ codes "refused beta\n" }
+    ensures level { text_of_reply (Reply.Line (LineFault.Row RowFault.Level)) ≡ codes "refused level\n" }
+    ensures dof_range { text_of_reply (Reply.Line (LineFault.Row RowFault.DofRange)) ≡ codes "refused dof_range\n" }
     ensures long { text_of_reply (Reply.Line LineFault.LongLine) ≡ codes "refused long_line\n" }
     ensures long_table { text_of_reply (Reply.Line LineFault.LongTable) ≡ codes "refused long_table\n" }
     ensures open_table { text_of_reply (Reply.Line LineFault.UnclosedTable) ≡ codes "refused open_table\n" }

@@ -14,6 +14,22 @@ pub returns-clause-row : goal.returns-clause-row
 unfolding digits
 returns-clause-row c = refl
 
+pub returns-clause-zero_k : goal.returns-clause-zero_k
+unfolding digits
+returns-clause-zero_k c = refl
+
+pub returns-clause-beta : goal.returns-clause-beta
+unfolding digits
+returns-clause-beta c = refl
+
+pub returns-clause-level : goal.returns-clause-level
+unfolding digits
+returns-clause-level c = refl
+
+pub returns-clause-dof_range : goal.returns-clause-dof_range
+unfolding digits
+returns-clause-dof_range c = refl
+
 pub returns-clause-long : goal.returns-clause-long
 unfolding digits
 returns-clause-long c = refl
