@@ -73,9 +73,8 @@ impl Splitter {
 
     /// Gives the next item that is whole without the end of the input, and `None` exactly where none is left.
     ///
-    /// It looks at the bytes of the item it gives, and, where it gives none, at all that are left: of an open block
-    /// too, from its first line on. So all calls together take a step for each byte that was fed, and as many again
-    /// as are left at each answer `None`.
+    /// Its work is of the order of the bytes of the item that it gives, and, where it gives none, of all that are left:
+    /// an open block is looked through from its first line on, again at each such call.
     ///
     /// # Errors
     ///

@@ -1,4 +1,4 @@
-use Rattle.std.proofs.Common.{◌≤◌, length, sym, ◌∙◌, ap, arith}
+use Rattle.std.proofs.Common.{length, sym, ◌∙◌, ap, arith}
 use Rattle.std.proofs.lemmas.List.{length-drop}
 use Rattle.script_lines.proofs.ItemSteps.{left_is, line_inside, line_ends}
 use Rattle.script_lines.proofs.first.block_lines.Goals as goal
