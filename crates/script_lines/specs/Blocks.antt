@@ -1,6 +1,7 @@
 -- Which lines open a table block, and which end one.
 use Rattle.std.specs.Prelude.{ℕ, ◌==◌, ◌&&◌, ◌||◌, Bool, false, List, [], ◌∷◌, take, drop, bytes_eq, codes}
 use Rattle.std.specs.List.{prefix_len, list_all}
+use Rattle.line_text.specs.Characters.{carriage_return}
 use Rattle.line_text.specs.Blanks.{is_blank}
 use Rattle.line_text.specs.Words.{Word, words_from, written_part}
 
@@ -23,7 +24,7 @@ opens_block line = words_open (words_from (written_part line) 0)
 -- ---- a block is ended by a line that is `end`
 -- what counts for nothing at the ends of a line of a block: blanks and carriage returns
 abbrev pub is_padding : ℕ → Bool
-is_padding byte = is_blank byte || byte == 13
+is_padding byte = is_blank byte || byte == carriage_return
 
 -- `end`, and no more than padding after it
 abbrev pub is_end : List ℕ → Bool

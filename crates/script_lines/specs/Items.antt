@@ -1,6 +1,7 @@
 -- The items of a text: its lines, and its table blocks with the lines that open them.
 use Rattle.std.specs.Prelude.{ℕ, ◌==◌, Bool, nat_lt, if◌then◌else◌, List, [], ◌∷◌, ◌++◌, length, take}
 use Rattle.std.specs.List.{slice_split, slice_index}
+use Rattle.line_text.specs.Characters.{line_feed, carriage_return}
 use Rattle.script_lines.specs.Blocks.{opens_block, ends_block}
 use Rattle.script_lines.specs.declared.item.Item.{Item}
 use Rattle.script_lines.specs.declared.item.Item.TheVariants.{Line, Block, LongLine, LongTable, UnclosedTable}
@@ -20,7 +21,7 @@ block_limit = 1048576
 abbrev pub without_return : List ℕ → List ℕ
 without_return [] = []
 without_return (byte ∷ bytes) =
-    if slice_index (byte ∷ bytes) (length bytes) == 13 then take (length bytes) (byte ∷ bytes) else byte ∷ bytes
+    if slice_index (byte ∷ bytes) (length bytes) == carriage_return then take (length bytes) (byte ∷ bytes) else byte ∷ bytes
 
 -- ---- one line
 -- where a line stands: outside of blocks, or in the block that the line `head` opened, after lines of these bytes
@@ -63,7 +64,7 @@ no_items region line = []
 -- ---- the items of a text
 -- what line feeds part; the last part is what no line feed ended
 abbrev pub parts_of : List ℕ → List (List ℕ)
-parts_of text = slice_split (λ byte. byte == 10) text
+parts_of text = slice_split (λ byte. byte == line_feed) text
 
 -- the items of these lines; `last` says what the last one gives
 abbrev pub items_by : (last : Region → List ℕ → List Item) → Region → List (List ℕ) → List Item
