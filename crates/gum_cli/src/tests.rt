@@ -22,7 +22,7 @@ const SHEET: &[u8; 53] = b"given X 5 std 1\nlet Y = X + 2\ngiven x 1 exact\nmark
 const DUMP: &[u8; 49] = b"given X 5 std 1\nlet Y = X + 2\ngiven x 1 exact\nok\n";
 
 // Lines that are refused on this sheet, and why.
-const REFUSED: [(&str, &str); 28] = [
+const REFUSED: [(&str, &str); 38] = [
     ("let Z = X +", "syntax 12"),
     ("mark X.Y", "syntax 6"),
     ("given Z 5. std 1", "not_number 9"),
@@ -38,7 +38,17 @@ const REFUSED: [(&str, &str); 28] = [
         "too_many_nodes 265",
     ),
     ("given Z 1 std -1", "negative"),
-    ("given Z 1 rect 1", "not_built"),
+    ("given Z 1 exp -1 0", "negative"),
+    ("given Z 1 exp 1 0", "zero_k"),
+    ("given Z 1 trap 1 -0.1", "beta"),
+    ("given Z 1 trap 1 1.1", "beta"),
+    ("given Z 1 norm 2 50", "level"),
+    ("given Z 1 norm 2 dof 5", "syntax 22"),
+    ("given Z 1 std 1 dof 0", "dof_range"),
+    ("given Z 1 std 1 dof 1000001", "dof_range"),
+    ("given Z 1 std 1 rel 0", "dof_range"),
+    ("given Z 1 std 1 rel 71", "dof_range"),
+    ("set given X 1 exp 1 0", "zero_k"),
     ("readings R 1 2", "not_built"),
     ("table T\nA\ndump\nend", "not_built"),
     ("var X", "not_built"),
@@ -57,6 +67,25 @@ const REFUSED: [(&str, &str); 28] = [
     ("value M", "no_such_result M"),
     ("value X.Y", "no_such_result X.Y"),
     ("value X\r\r", "syntax 7"),
+];
+
+// Inputs of each shape and with degrees of freedom, as they are written and as they are dumped.
+const SHAPES: [(&str, &str); 12] = [
+    ("given A 1.50 exact", "given A 1.5 exact"),
+    ("given B +2 std 1e-1", "given B 2 std 0.1"),
+    ("given C 3 exp 0.050 2.0", "given C 3 exp 0.05 2"),
+    ("given D 4\tnorm 1 90 # note", "given D 4 norm 1 90"),
+    ("given E 5 norm 1 95", "given E 5 norm 1 95"),
+    ("given F 6 norm 1 99 dof inf", "given F 6 norm 1 99"),
+    ("given G 7 rect 010", "given G 7 rect 10"),
+    ("given H 8 tri 0", "given H 8 tri 0"),
+    ("given I 9 trap 1 0.50", "given I 9 trap 1 0.5"),
+    ("given J 10 arcsine 1 dof 01", "given J 10 arcsine 1 dof 1"),
+    (
+        "given K 11 std 1 dof 1000000",
+        "given K 11 std 1 dof 1000000",
+    ),
+    ("given L 12 rect 1 rel 07", "given L 12 rect 1 rel 7"),
 ];
 
 // Takes one byte at a time.
@@ -202,7 +231,7 @@ fn refuses_lines(rt: HostRuntime) -> Result<(), Fail> {
         b"let Y = sin(1)\nlet Y = 2 + 3x\n" => b"refused unknown_function 9\nrefused syntax 14\n",
         b"value  X\nvalue X\r\r\n\x00\xff\n" => b"refused no_such_result X\nrefused syntax 7\nrefused syntax 1\n",
         b"given X 5. std 1\ngiven X 5 std -1\ngiven X\n" => b"refused not_number 9\nrefused negative\nrefused syntax 8\n",
-        b"var X\nvalue T.V\ngiven X 5 rect 1\nvalue\nvalue X Y\n"
+        b"var X\nvalue T.V\nreadings X 5\nvalue\nvalue X Y\n"
             => b"refused not_built\nrefused no_such_result T.V\nrefused not_built\nrefused syntax 6\nrefused syntax 9\n",
         b"undo\nset table T # end\r\nA # ohm\n \t\nundo\nend # A\n \tend\r\nredo\n"
             => b"refused nothing_to_undo\nrefused not_built\nrefused nothing_to_redo\n",
@@ -231,6 +260,30 @@ fn refusals_leave_the_sheet(rt: HostRuntime) -> Result<(), Fail> {
     Ok(())
 }
 
+// What is dumped is read as the same rows.
+#[test]
+fn dumps_each_shape(rt: HostRuntime) -> Result<(), Fail> {
+    let mut script = Vec::new(rt.alloc());
+    let mut again = Vec::new(rt.alloc());
+    let mut wanted = Vec::new(rt.alloc());
+    for (line, row) in SHAPES {
+        script.extend_from_slice(line.as_bytes())?;
+        script.push(b'\n')?;
+        again.extend_from_slice(row.as_bytes())?;
+        again.push(b'\n')?;
+        wanted.extend_from_slice(b"ok\n")?;
+    }
+    wanted.extend_from_slice(&again)?;
+    wanted.extend_from_slice(b"ok\n")?;
+    for rows in [&mut script, &mut again] {
+        rows.extend_from_slice(b"dump\n")?;
+        let (status, replies) = replies_to(&rt, "run", rows)?;
+        assert_eq!(rt; status, Status::Done);
+        assert_eq!(rt; replies.as_slice(), wanted.as_slice());
+    }
+    Ok(())
+}
+
 // A row's kind changes while others use it, an edit empties the future, and a mark may have a row's name.
 #[test]
 fn answers_edits(rt: HostRuntime) -> Result<(), Fail> {
@@ -242,6 +295,8 @@ fn answers_edits(rt: HostRuntime) -> Result<(), Fail> {
         b"given X 5 std 1\nmark A\nset given X 6 std 1\nvalue X\nat A value X\nrestore A\nvalue X\nundo\nvalue X\nredo\nvalue X\nredo\nrestore B\n"
             => b"ok\nok\nok\nvalue X 6 6\nvalue X 5 5\nok\nvalue X 5 5\nok\nvalue X 6 6\nok\nvalue X 5 5\nrefused nothing_to_redo\nrefused no_mark B\n",
         b"given X 5 std 1 # ohm\r\n\r\nvalue X" => b"ok\nvalue X 5 5\n",
+        b"given X 5 std 1\nset given X 6 rect 0.50 rel 25\ndump\nvalue X\nundo\ndump\n"
+            => b"ok\nok\ngiven X 6 rect 0.5 rel 25\nok\nvalue X 6 6\nok\ngiven X 5 std 1\nok\n",
         b"let X = 5\nlet Y = X\nset given X 7 exact\nmark X\nundo\nset let X = 6\nredo\nvalue Y\nat X value Y\n"
             => b"ok\nok\nok\nok\nok\nok\nrefused nothing_to_redo\nvalue Y 6 6\nvalue Y 7 7\n",
     }

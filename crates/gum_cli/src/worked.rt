@@ -23,12 +23,14 @@ pub fn worked_refusals()
     ensures unknown_function { out (codes "let Y = sin(1)\n") ≡ codes "refused unknown_function 9\n" }
     ensures syntax { out (codes "given X\nvalue X\r\r\n") ≡ codes "refused syntax 8\nrefused syntax 7\n" }
     ensures not_number { out (codes "given X 5. std 1\n") ≡ codes "refused not_number 9\n" }
-    ensures not_built { out (codes "given X 5 rect 1\ngiven X 5 std 1 dof 5\nreadings R 1 2\nvar X\n")
-        ≡ codes "refused not_built\nrefused not_built\nrefused not_built\nrefused not_built\n" }
+    ensures not_built { out (codes "readings R 1 2\nvar X\n") ≡ codes "refused not_built\nrefused not_built\n" }
     ensures block { out (codes "set table T\r\nA # ohm\nundo\n end\r\nundo\n") ≡ codes "refused not_built\nrefused nothing_to_undo\n" }
     ensures open_table { out (codes "undo\ntable T\nA\nundo\n") ≡ codes "refused nothing_to_undo\nrefused open_table\n" }
     ensures early_block { early (codes "undo\ntable T\nA\nend") ≡ codes "refused nothing_to_undo\n" }
     ensures negative { out (codes "given X 5 std -1\n") ≡ codes "refused negative\n" }
+    ensures shapes { out (codes "given X 1 exp 1 0\ngiven X 1 trap 1 1.1\ngiven X 1 norm 2 50\n")
+        ≡ codes "refused zero_k\nrefused beta\nrefused level\n" }
+    ensures degrees { out (codes "given X 1 exact rel 71\ngiven X 1 norm 2 dof 5\n") ≡ codes "refused dof_range\nrefused syntax 22\n" }
 {}
 
 /// Commands that are refused, and the order of two reasons that both apply. The sheet stays as it was.

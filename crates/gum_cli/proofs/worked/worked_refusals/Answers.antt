@@ -53,3 +53,11 @@ returns-clause-open_table c = refl
 pub returns-clause-early_block : goal.returns-clause-early_block
 unfolding digits opens_block ends_block line_read row_read reading_of parsed span_of evaluation_of outward quotient power_span holds_zero min_ℚ max_ℚ up down cut_off is_in_range value_of ◌+ℚ◌ ◌*ℚ◌ inv_ℚ neg_ℚ is_at_most_ℚ floor_ℚ floor is_at_most inverse ◌⊕◌ ◌⊗◌ fraction.negated /_rec₂ /_rec
 returns-clause-early_block c = refl
+
+pub returns-clause-shapes : goal.returns-clause-shapes
+unfolding digits opens_block ends_block line_read row_read reading_of parsed span_of evaluation_of outward quotient power_span holds_zero min_ℚ max_ℚ up down cut_off is_in_range value_of ◌+ℚ◌ ◌*ℚ◌ inv_ℚ neg_ℚ is_at_most_ℚ floor_ℚ floor is_at_most inverse ◌⊕◌ ◌⊗◌ fraction.negated /_rec₂ /_rec
+returns-clause-shapes c = refl
+
+pub returns-clause-degrees : goal.returns-clause-degrees
+unfolding digits opens_block ends_block line_read row_read reading_of parsed span_of evaluation_of outward quotient power_span holds_zero min_ℚ max_ℚ up down cut_off is_in_range value_of ◌+ℚ◌ ◌*ℚ◌ inv_ℚ neg_ℚ is_at_most_ℚ floor_ℚ floor is_at_most inverse ◌⊕◌ ◌⊗◌ fraction.negated /_rec₂ /_rec
+returns-clause-degrees c = refl
