@@ -1,0 +1,11 @@
+//! The text of a table block, comma-separated, read as the names of columns and rows of numbers.
+#![tactic(auto)]
+
+mod fault;
+mod fields;
+mod header;
+mod records;
+mod rows;
+
+pub use fault::RecordsFault;
+pub use records::{Records, read_records};
