@@ -2,3 +2,4 @@
 pub mod Records
 pub mod Header
 pub mod Tables
+pub mod Worked

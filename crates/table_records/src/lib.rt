@@ -4,8 +4,10 @@
 mod fault;
 mod fields;
 mod header;
+mod laws;
 mod records;
 mod rows;
 
 pub use fault::RecordsFault;
+pub use laws::{worked_refusals, worked_tables};
 pub use records::{Records, read_records};
