@@ -1,2 +1,3 @@
 pub mod AllRecords
 pub mod RowSteps
+pub mod TablesRead

@@ -1,7 +1,8 @@
 -- The table that the text of a table block is: the names of the columns and, for each record below them, a row of
 -- numbers. What breaks a rule first decides; a record's place counts from 1, the header included. These rules are this
 -- project's own.
-use Rattle.std.specs.Prelude.{ℕ, ◌+◌, ◌==◌, if◌then◌else◌, List, [], ◌∷◌, length, map, Result, Ok, Err}
+use Rattle.std.specs.Prelude.{◌≡◌, true, ℕ, ◌+◌, ◌==◌, if◌then◌else◌, List, [], ◌∷◌, length, map, Result, Ok, Err}
+use Rattle.std.specs.List.{list_all}
 use Rattle.std.specs.Global.{Vec}
 use Rattle.decimal18.specs.Bound.{Bound}
 use Rattle.decimal18.specs.Literal.{parsed}
@@ -72,3 +73,9 @@ table_in (header ∷ below) =
 -- what the text of a block is read as
 unfoldable pub records_read : List ℕ → Read Table
 records_read block = table_in (records_of block)
+
+-- ---- what is read
+-- the columns are those of a header, and each row has a number for each of them
+pub record IsTable (t : Table) : Type 0 where
+  pub header : is_header t.columns ≡ true
+  pub widths : list_all (λ row. length row == length t.columns) t.rows ≡ true

@@ -7,6 +7,8 @@ mod header;
 mod laws;
 mod records;
 mod rows;
+#[cfg(test)]
+mod tests;
 
 pub use fault::RecordsFault;
 pub use laws::{worked_refusals, worked_tables};

@@ -1,8 +1,8 @@
-ghost use Rattle.std.specs.Prelude.{◌≡◌, map};
+ghost use Rattle.std.specs.Prelude.{◌≡◌, map, IfOk};
 ghost use Rattle.csv.specs.Records.{fields_of};
 ghost use Rattle.line_text.specs.Memory.{GivesBy};
 ghost use Rattle.table_records.specs.declared.fault.RecordsFault.TheVariants.{OutOfMemory};
-ghost use Rattle.table_records.specs.Tables.{table_of, table_in, records_read};
+ghost use Rattle.table_records.specs.Tables.{table_of, table_in, records_read, IsTable};
 
 use crate::fault::RecordsFault;
 use crate::fields::records_of;
@@ -45,7 +45,8 @@ fn table_in(alloc: Global, records: &[ByteRecord]) -> Result<Records, RecordsFau
 /// [`RecordsFault::NotNumber`] and [`RecordsFault::NumberRange`]. Or [`RecordsFault::OutOfMemory`], where
 /// there is no memory for the records.
 pub fn read_records(alloc: Global, block: &[u8]) -> Result<Records, RecordsFault>
-    ensures { GivesBy table_of OutOfMemory result (records_read block.now) }
+    ensures exact { GivesBy table_of OutOfMemory result (records_read block.now) }
+    ensures table { IfOk result (λ records. IsTable (table_of records)) }
 {
     let records = records_of(alloc, block)?;
     table_in(alloc, records.as_slice())
