@@ -1,5 +1,6 @@
 -- The records that a text has one after the other, up to one after which there is none, are all its records.
 use Rattle.std.proofs.Common.{◌≡◌, ◌<◌, ◌≤◌, ◌+◌, ◌⊎◌, inl, inr, ℕ, zero, suc, Bool, true, false, if◌then◌else◌, List, [], ◌∷◌, length, Option, Some, None, refl, sym, ap, ◌∙◌, arith}
+use Rattle.std.proofs.lemmas.Option.{same_Some}
 use Rattle.csv.specs.declared.parser.Config.{Config}
 use Rattle.csv.specs.declared.parser.State.{State}
 use Rattle.csv.specs.declared.parser.State.TheVariants as st
@@ -10,17 +11,14 @@ use Rattle.csv.specs.Reading.{AreRecords, Reached, records, records_from}
 abbrev Leaves : List ℕ → Read → Type 0
 Leaves xs r = (length r.2 < length xs) ⊎ ((r.1 ≡ st.StartRecord) × (r.2 ≡ []))
 
-some-same : {A : Type 0} {x y : A} → Some x ≡ Some y → x ≡ y
-some-same h = cc h
-
 at_end : (b : Bool) (x r : Read) (xs : List ℕ) → x.1 ≡ st.StartRecord → x.2 ≡ [] → (if b then Some x else None) ≡ Some r → Leaves xs r
-at_end true x r xs s none e = inr (rw (← some-same e) s, rw (← some-same e) none)
+at_end true x r xs s none e = inr (rw (← same_Some x r e) s, rw (← same_Some x r e) none)
 at_end false x r xs s none e = absurd (cc e)
 
 at_byte : (b : Bool) (x r : Read) (other : Option Read) (c : ℕ) (rest : List ℕ) → x.2 ≡ rest → (if b then Some x else other) ≡ Some r →
     (other ≡ Some r → Leaves rest r) → Leaves (c ∷ rest) r
 at_byte true x r other c rest left e later =
-    let same : r.2 ≡ rest = ap (λ (q : Read). q.2) (sym (some-same e)) ∙ left in
+    let same : r.2 ≡ rest = ap (λ (q : Read). q.2) (sym (same_Some x r e)) ∙ left in
     inl (rw same (omega arith))
 at_byte false x r other c rest left e later =
     elim (later e) [ inl fewer ↦ inl (omega (arith, fewer)) | inr last ↦ inr last ]

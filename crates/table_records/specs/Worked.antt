@@ -1,5 +1,5 @@
 -- Small tables, by which the definitions can be read.
-use Rattle.std.specs.Prelude.{ℕ, List, [], ◌∷◌, ◌++◌, map, pos}
+use Rattle.std.specs.Prelude.{ℕ, List, [], ◌∷◌, map, pos}
 use Rattle.decimal18.specs.Bound.{Bound, scaled}
 use Rattle.table_records.specs.Tables.{Table}
 

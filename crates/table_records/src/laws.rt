@@ -1,7 +1,7 @@
 ghost use Rattle.std.specs.Prelude.{◌≡◌, [], ◌∷◌, ◌++◌, codes, replicate, Ok, Err, pos, negsuc};
 ghost use Rattle.decimal18.specs.Bound.{scaled};
 ghost use Rattle.table_records.specs.declared.fault.RecordsFault.TheVariants.{TooFew, Shape, NotNumber, NumberRange};
-ghost use Rattle.table_records.specs.Tables.{records_read};
+ghost use Rattle.table_records.specs.Tables.{records_read, table_in};
 ghost use Rattle.table_records.specs.Worked.{whole, table, column, marked, eight_letters};
 
 /// What some texts are read as: blanks at the ends of a field, quotes, a byte order mark at the start and lines
@@ -27,6 +27,7 @@ pub fn worked_refusals()
     ensures nothing { records_read [] ≡ Err TooFew }
     ensures mark { records_read (marked []) ≡ Err TooFew }
     ensures empty_lines { records_read (codes "\n\r\n\n") ≡ Err TooFew }
+    ensures no_columns { table_in ([] ∷ []) ≡ Err (Shape 1) }
     ensures end_of_table { records_read (codes "V,end\n1,2\n") ≡ Err (Shape 1) }
     ensures quoted_end { records_read (codes "\" end\"\n1\n") ≡ Err (Shape 1) }
     ensures empty_name { records_read (codes "V,\n1,2\n") ≡ Err (Shape 1) }

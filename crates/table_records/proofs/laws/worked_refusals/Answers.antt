@@ -91,3 +91,6 @@ returns-clause-no_comments c = refl
 pub returns-clause-empty_lines_count_not : goal.returns-clause-empty_lines_count_not
 unfolding csv_on_literals parsed records_read
 returns-clause-empty_lines_count_not c = refl
+
+pub returns-clause-no_columns : goal.returns-clause-no_columns
+returns-clause-no_columns c = refl
