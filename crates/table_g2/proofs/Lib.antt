@@ -1,0 +1,4 @@
+mod WholePart
+mod Rows
+mod Enclosed
+mod Worked

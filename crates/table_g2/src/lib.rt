@@ -1,0 +1,14 @@
+//! Coverage factors by effective degrees of freedom (JCGM 100:2008, G.4.1, Table G.2).
+#![tactic(auto)]
+
+mod factors;
+mod known;
+mod laws;
+mod table;
+mod whole;
+
+pub use factors::factor;
+pub use known::{Level, Nu};
+pub use laws::{
+    whole_part_has_the_row, worked_conditions, worked_degrees, worked_points, worked_spans,
+};
