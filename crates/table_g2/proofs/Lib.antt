@@ -2,3 +2,4 @@ mod WholePart
 mod Rows
 mod Enclosed
 mod Worked
+mod SaidRanges

@@ -1,12 +1,14 @@
 -- What single degrees are, and which of them a range does not allow.
-use Rattle.std.specs.Prelude.{◌≡◌, Bool, true, false, Some, pos}
+use Rattle.std.specs.Prelude.{◌≡◌, ℕ, Bool, true, false, Some, pos}
 use Rattle.std.proofs.Common.{sym, ap, subst, ◌∙◌, inl, inr}
 use Rattle.std.proofs.lemmas.Bool.{true≢false}
-use Rattle.exact_fraction.specs.Number.{ℚ, of_ℤ, is_at_most_ℚ, ◌≤ℚ◌}
+use Rattle.exact_fraction.specs.Number.{ℚ, of_ℤ, is_at_most_ℚ, ◌≤ℚ◌, floor_ℚ}
 use Rattle.decimal18.specs.Bound.{Bound, value_of}
 use Rattle.exact_law.specs.Degrees.{Degrees, NoDegrees, InfiniteDegrees, FiniteDegrees}
 use Rattle.table_g2.specs.Known.{Allows, IsBelow, told_apart}
 use Rattle.table_g2.specs.declared.known.Nu.TheVariants.{Range}
+use Rattle.table_g2.specs.Said.{IsSaid}
+use Rattle.table_g2.specs.declared.settled.DofSaid.TheVariants.{Big, Whole}
 
 pub not_at_most : (x y : ℚ) → is_at_most_ℚ x y ≡ false → ¬ (x ≤ℚ y)
 not_at_most x y e h = true≢false (sym h.holds ∙ e)
@@ -53,3 +55,10 @@ is_none (FiniteDegrees x) = false
 pub infinite_not_none : InfiniteDegrees ≡ NoDegrees → ⊥
 unfolding is_none
 infinite_not_none e = true≢false (sym (ap is_none e))
+
+-- ---- what is said
+pub big_number : (x : ℚ) → IsSaid Big (FiniteDegrees x) → of_ℤ (pos told_apart) ≤ℚ x
+big_number x (y, (e, h)) = subst (λ z. of_ℤ (pos told_apart) ≤ℚ z) (sym (same_Finite x y e)) h
+
+pub whole_number : (w : ℕ) (x : ℚ) → IsSaid (Whole w) (FiniteDegrees x) → floor_ℚ x ≡ pos w
+whole_number w x (y, (e, h)) = ap floor_ℚ (same_Finite x y e) ∙ h

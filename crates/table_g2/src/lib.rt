@@ -4,6 +4,8 @@
 mod factors;
 mod known;
 mod laws;
+mod sayings;
+mod settled;
 mod table;
 mod whole;
 
@@ -12,3 +14,5 @@ pub use known::{Level, Nu};
 pub use laws::{
     whole_part_has_the_row, worked_conditions, worked_degrees, worked_points, worked_spans,
 };
+pub use sayings::{worked_meanings, worked_sayings};
+pub use settled::{DofSaid, said};
