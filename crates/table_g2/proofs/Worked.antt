@@ -3,7 +3,9 @@ use Rattle.std.specs.Prelude.{◌≡◌, ℕ, Bool, true, false, Some, pos}
 use Rattle.std.proofs.Common.{sym, ap, subst, ◌∙◌, inl, inr}
 use Rattle.std.proofs.lemmas.Bool.{true≢false}
 use Rattle.exact_fraction.specs.Number.{ℚ, of_ℤ, is_at_most_ℚ, ◌≤ℚ◌, floor_ℚ}
-use Rattle.decimal18.specs.Bound.{Bound, value_of}
+use Rattle.exact_fraction.specs.NumberLaws.{≤ℚ_same}
+use Rattle.decimal18.specs.Bound.{Bound, scaled, value_of}
+use Rattle.decimal18.proofs.Values.{value-whole}
 use Rattle.exact_law.specs.Degrees.{Degrees, NoDegrees, InfiniteDegrees, FiniteDegrees}
 use Rattle.table_g2.specs.Known.{Allows, IsBelow, told_apart}
 use Rattle.table_g2.specs.declared.known.Nu.TheVariants.{Range}
@@ -62,3 +64,7 @@ big_number x (y, (e, h)) = subst (λ z. of_ℤ (pos told_apart) ≤ℚ z) (sym (
 
 pub whole_number : (w : ℕ) (x : ℚ) → IsSaid (Whole w) (FiniteDegrees x) → floor_ℚ x ≡ pos w
 whole_number w x (y, (e, h)) = ap floor_ℚ (same_Finite x y e) ∙ h
+
+-- ---- ranges from tests
+pub one_to : (one : Bound) → one ≡ scaled (pos 1) 0 → of_ℤ (pos 1) ≤ℚ value_of one
+one_to one e = ≤ℚ_same _ _ (sym (ap value_of e ∙ value-whole (pos 1)))

@@ -7,6 +7,8 @@ mod laws;
 mod sayings;
 mod settled;
 mod table;
+#[cfg(test)]
+mod tests;
 mod whole;
 
 pub use factors::factor;

@@ -11,7 +11,7 @@ use step_table::StepTable;
 
 // The coverage factors of a row, in thousandths.
 #[derive(Clone, Copy, Debug)]
-pub struct Factors {
+struct Factors {
     percent95: u16,
     percent9545: u16,
     percent99: u16,
