@@ -1,0 +1,6 @@
+mod Entries
+mod Searches
+mod Chains
+mod Orders
+mod Inserting
+mod Diamond
