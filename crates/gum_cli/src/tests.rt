@@ -260,27 +260,34 @@ fn refusals_leave_the_sheet(rt: HostRuntime) -> Result<(), Fail> {
     Ok(())
 }
 
+// What replies come to these rows and a `dump` after them.
+fn dumped(rt: &HostRuntime, rows: &[u8]) -> Result<(Status, Vec<u8>), Fail> {
+    let mut script = rows.to_vec(rt.alloc())?;
+    script.extend_from_slice(b"dump\n")?;
+    replies_to(rt, "run", &script)
+}
+
 // What is dumped is read as the same rows.
 #[test]
 fn dumps_each_shape(rt: HostRuntime) -> Result<(), Fail> {
-    let mut script = Vec::new(rt.alloc());
+    let mut rows = Vec::new(rt.alloc());
     let mut again = Vec::new(rt.alloc());
     let mut wanted = Vec::new(rt.alloc());
     for (line, row) in SHAPES {
-        script.extend_from_slice(line.as_bytes())?;
-        script.push(b'\n')?;
+        rows.extend_from_slice(line.as_bytes())?;
+        rows.push(b'\n')?;
         again.extend_from_slice(row.as_bytes())?;
         again.push(b'\n')?;
         wanted.extend_from_slice(b"ok\n")?;
     }
     wanted.extend_from_slice(&again)?;
     wanted.extend_from_slice(b"ok\n")?;
-    for rows in [&mut script, &mut again] {
-        rows.extend_from_slice(b"dump\n")?;
-        let (status, replies) = replies_to(&rt, "run", rows)?;
-        assert_eq!(rt; status, Status::Done);
-        assert_eq!(rt; replies.as_slice(), wanted.as_slice());
-    }
+    let (status, replies) = dumped(&rt, &rows)?;
+    assert_eq!(rt; status, Status::Done);
+    assert_eq!(rt; replies.as_slice(), wanted.as_slice());
+    let (status, replies) = dumped(&rt, &again)?;
+    assert_eq!(rt; status, Status::Done);
+    assert_eq!(rt; replies.as_slice(), wanted.as_slice());
     Ok(())
 }
 
