@@ -26,6 +26,11 @@ pub or-cases : {P : Type 0} (a b : Bool) → (a || b) ≡ true → (a ≡ true �
 or-cases true b h l r = l refl
 or-cases false b h l r = r h
 
+pub both-there : (ids : List ℕ) (m n : ℕ) → has ids m ≡ true → has ids n ≡ true → (k : ℕ) → has (m ∷ n ∷ []) k ≡ true → has ids k ≡ true
+both-there ids m n h t k q = or-cases (nat_eq k m) (nat_eq k n || false) q
+    (λ e. let same : m ≡ k = grind (arith, nat_tests) in ap (has ids) (sym same) ∙ h)
+    (λ r. or-cases (nat_eq k n) false r (λ e. let same : n ≡ k = grind (arith, nat_tests) in ap (has ids) (sym same) ∙ t) (λ f. absurd (true≢false (sym f))))
+
 pub has-append : (xs ys : List ℕ) (n : ℕ) → has (xs ++ ys) n ≡ (has xs n || has ys n)
 has-append [] ys n = refl
 has-append (x ∷ xs) ys n = ap (λ b. nat_eq n x || b) (has-append xs ys n) ∙ sym (or-assoc (nat_eq n x) (has xs n) (has ys n))
