@@ -171,12 +171,12 @@ apart : (xs ys : List Node) → AreOnce (xs ++ ys) → (m : ℕ) → has (ids_of
 apart [] ys once m h = refl
 apart (x ∷ xs) ys once m h = by (nat_eq m x.id) refl (apart xs ys once.1 m h)
   where
-    behind : (zs : List Node) (k : ℕ) → has (ids_of ys) k ≡ true → has (ids_of (zs ++ ys)) k ≡ true
-    behind [] k t = t
-    behind (z ∷ zs) k t = or-right (nat_eq k z.id) (has (ids_of (zs ++ ys)) k) (behind zs k t)
+    later : (zs : List Node) (k : ℕ) → has (ids_of ys) k ≡ true → has (ids_of (zs ++ ys)) k ≡ true
+    later [] k t = t
+    later (z ∷ zs) k t = or-right (nat_eq k z.id) (has (ids_of (zs ++ ys)) k) (later zs k t)
 
     by : (b : Bool) → nat_eq m x.id ≡ b → has (ids_of xs) m ≡ false → has (ids_of (x ∷ xs)) m ≡ false
-    by true q more = let same : m ≡ x.id = grind (arith, nat_tests) in absurd (true≢false (sym (ap (λ k. has (ids_of (xs ++ ys)) k) (sym same) ∙ behind xs m h) ∙ once.0))
+    by true q more = let same : m ≡ x.id = grind (arith, nat_tests) in absurd (true≢false (sym (ap (λ k. has (ids_of (xs ++ ys)) k) (sym same) ∙ later xs m h) ∙ once.0))
     by false q more = rw q more
 
 all-pass : (p : ℕ → Bool) (ns : List ℕ) → ((m : ℕ) → has ns m ≡ true → p m ≡ true) → filter p ns ≡ ns

@@ -1,5 +1,5 @@
--- A graph: a list of nodes in order, each with the nodes that it uses. A node is known by its number. No paper asks
--- for these definitions: they are this project's own.
+-- A graph: a list of nodes in order, each with the nodes that it uses. A node is known by its number. These
+-- definitions are this project's own.
 use Rattle.std.specs.Prelude.{◌≡◌, ℕ, Bool, true, false, nat_eq, if◌then◌else◌, List, [], ◌∷◌, map}
 use Rattle.std.specs.List.{list_any}
 

@@ -82,9 +82,9 @@ impl Graph {
         self.nodes.get(&id).unwrap().users.as_slice()
     }
 
-    /// Adds a node at the place `at`, behind which the others move up, with the nodes that it uses.
+    /// Adds a node at the place `at`, after which the others move up, with the nodes that it uses.
     ///
-    /// It takes time of the lists of users of the nodes that are used, and of the nodes behind the place.
+    /// It takes time of the lists of users of the nodes that are used, and of the nodes after the place.
     ///
     /// # Errors
     ///
@@ -235,7 +235,7 @@ impl Graph {
         Ok(found)
     }
 
-    // Puts what is next to the node, this way, behind what is found, if it is not found yet.
+    // Puts what is next to the node, this way, after what is found, if it is not found yet.
     fn add_next(&self, id: Id, way: Way, found: &mut IndexSet<Id>) -> Result<(), OutOfMemory>
         requires there { has (ids_of self.now) id ≡ true }
         ensures { OnOk result (found.new.keys ≡ insert_all nat_eq found.old.keys (next_in way self.now id)) }
