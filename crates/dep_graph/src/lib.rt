@@ -8,8 +8,6 @@ mod graph;
 mod id;
 mod id_list;
 mod laws;
-#[cfg(test)]
-mod tests;
 mod way;
 
 pub use graph::Graph;
