@@ -13,7 +13,7 @@ use Rattle.exact_fraction.specs.Ratio.{IsOrderOf}
 use Rattle.decimal18.specs.Bound.{Bound, scaled, value_of}
 use Rattle.decimal18.specs.Order.{compare_ℚ, order}
 
-not_at_most : (x y : ℚ) → is_at_most_ℚ x y ≡ false → ¬ (x ≤ℚ y)
+pub not_at_most : (x y : ℚ) → is_at_most_ℚ x y ≡ false → ¬ (x ≤ℚ y)
 not_at_most x y e h = true≢false (sym h.holds ∙ e)
 
 tested : (x y : ℚ) (s t : Bool) → is_at_most_ℚ x y ≡ s → is_at_most_ℚ y x ≡ t → IsOrderOf (if s then (if t then Equal else Less) else Greater) x y

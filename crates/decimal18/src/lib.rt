@@ -32,7 +32,7 @@ pub use laws::{
     down_is_greatest, one_canonical_form, order_is_that_of_values, up_is_least, worked_roundings,
     worked_texts,
 };
-pub use literal::{NumFault, parse};
+pub use literal::{NumFault, are_digits, digits_value, parse};
 pub use literal_laws::{
     digits_and_power_decide_bounds, printed_bounds_are_read_again, texts_spell_one_literal,
     worked_literals,

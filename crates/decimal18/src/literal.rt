@@ -103,7 +103,7 @@ fn split_point(text: &[u8]) -> (&[u8], &[u8])
 }
 
 /// Whether each byte is a digit.
-fn are_digits(text: &[u8]) -> bool
+pub fn are_digits(text: &[u8]) -> bool
     ensures { result ≡ are_digits text.now }
 {
     text.iter().all(|byte| byte.is_ascii_digit())
@@ -116,17 +116,27 @@ fn are_exponent_digits(text: &[u8]) -> bool
     are_digits(text) && !text.is_empty() && text.len() <= EXPONENT_DIGITS
 }
 
+/// The number that these digits write, at most nine.
+pub fn digits_value(digits: &[u8]) -> u32
+    requires digits { are_digits digits.now ≡ true }
+    requires few { length digits.now ≤ 9 }
+    ensures is { result ≡ digits_value 10 digits.now }
+    ensures below { result < 10 ^ length digits.now }
+{
+    let mut value = 0;
+    for digit in digits {
+        value = value * 10 + (*digit - b'0') as u32;
+    }
+    value
+}
+
 /// The number that one to three digits write.
 fn size_of_exponent(digits: &[u8]) -> u64
     requires digits { are_exponent_digits digits.now ≡ true }
     ensures value { result ≡ digits_value 10 digits.now }
     ensures below { result < 1000 }
 {
-    let mut size = 0;
-    for digit in digits {
-        size = size * 10 + (*digit - b'0') as u64;
-    }
-    size
+    digits_value(digits) as u64
 }
 
 /// The power of ten that the exponent says, and `None` where the text is not empty and no exponent.

@@ -62,7 +62,7 @@ fn without_comment(line: &[u8]) -> &[u8]
 }
 
 /// The length of the text without its last blanks.
-fn written_len(text: &[u8]) -> usize
+pub fn written_len(text: &[u8]) -> usize
     ensures is { result ≡ written_len text.now }
     ensures within { result ≤ length text.now }
 {

@@ -7,7 +7,7 @@ mod byte_list;
 mod tests;
 mod words;
 
-pub use blanks::{after, blanks_len, is_blank, skip_blanks, written_part};
+pub use blanks::{after, blanks_len, is_blank, skip_blanks, written_len, written_part};
 pub use byte_list::Bytes;
 pub use std::alloc::AllocError as OutOfMemory;
 pub use words::{Word, Words};

@@ -6,14 +6,12 @@ use Rattle.exact_fraction.specs.Number.{ℚ, of_ℤ, is_at_most_ℚ, ◌≤ℚ�
 use Rattle.exact_fraction.specs.NumberLaws.{≤ℚ_same}
 use Rattle.decimal18.specs.Bound.{Bound, scaled, value_of}
 use Rattle.decimal18.proofs.Values.{value-whole}
+use Rattle.decimal18.specs.OrderLaws.{not_at_most}
 use Rattle.exact_law.specs.Degrees.{Degrees, NoDegrees, InfiniteDegrees, FiniteDegrees}
 use Rattle.table_g2.specs.Known.{Allows, IsBelow, told_apart}
 use Rattle.table_g2.specs.declared.known.Nu.TheVariants.{Range}
 use Rattle.table_g2.specs.Said.{IsSaid}
 use Rattle.table_g2.specs.declared.settled.DofSaid.TheVariants.{Big, Whole}
-
-pub not_at_most : (x y : ℚ) → is_at_most_ℚ x y ≡ false → ¬ (x ≤ℚ y)
-not_at_most x y e h = true≢false (sym h.holds ∙ e)
 
 -- ---- kinds of degrees
 pub same_Finite : (x y : ℚ) → FiniteDegrees x ≡ FiniteDegrees y → x ≡ y

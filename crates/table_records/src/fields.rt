@@ -2,11 +2,10 @@
 
 ghost use Rattle.std.specs.Prelude.{◌≡◌, ◌<◌, ◌≤◌, [], length, drop, map, get_or, IfOk};
 ghost use Rattle.csv.specs.Records.{fields_of};
-ghost use Rattle.line_text.specs.Blanks.{written_len};
 ghost use Rattle.table_records.specs.Records.{records_of, trimmed};
 
 use csv::{ByteRecord, ReaderBuilder};
-use line_text::{OutOfMemory, is_blank, skip_blanks};
+use line_text::{OutOfMemory, skip_blanks, written_len};
 use std::alloc::{AllocError, Global};
 
 /// The records of the text.
@@ -28,20 +27,6 @@ pub fn records_of(alloc: Global, block: &[u8]) -> Result<Vec<ByteRecord>, OutOfM
         }
     }
     Ok(records)
-}
-
-/// The length of the text without its last blanks.
-fn written_len(text: &[u8]) -> usize
-    ensures is { result ≡ written_len text.now }
-    ensures within { result ≤ length text.now }
-{
-    let mut len = 0;
-    for (i, byte) in text.iter().enumerate() {
-        if !is_blank(*byte) {
-            len = i + 1;
-        }
-    }
-    len
 }
 
 /// The field without the blanks at its ends.

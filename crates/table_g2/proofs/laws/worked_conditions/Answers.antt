@@ -3,7 +3,7 @@ use std.Quotient.{/_rec, /_rec₂}
 use Rattle.exact_fraction.specs.Fraction.{is_at_most}
 use Rattle.exact_fraction.specs.Number.{is_at_most_ℚ}
 use Rattle.decimal18.specs.Bound.{value_of}
-use Rattle.table_g2.proofs.Worked.{not_at_most}
+use Rattle.decimal18.specs.OrderLaws.{not_at_most}
 use Rattle.table_g2.proofs.laws.worked_conditions.Goals as goal
 
 pub returns : goal.returns

@@ -4,7 +4,8 @@ use std.Quotient.{/_rec, /_rec₂}
 use Rattle.exact_fraction.specs.Fraction.{is_at_most}
 use Rattle.exact_fraction.specs.Number.{of_ℤ, is_at_most_ℚ, ◌≤ℚ◌}
 use Rattle.decimal18.specs.Bound.{scaled, value_of}
-use Rattle.table_g2.proofs.Worked.{not_at_most, same_Finite, not_below, not_above, none_not_finite, infinite_not_finite, infinite_not_none}
+use Rattle.decimal18.specs.OrderLaws.{not_at_most}
+use Rattle.table_g2.proofs.Worked.{same_Finite, not_below, not_above, none_not_finite, infinite_not_finite, infinite_not_none}
 use Rattle.table_g2.proofs.laws.worked_degrees.Goals as goal
 
 pub returns : goal.returns

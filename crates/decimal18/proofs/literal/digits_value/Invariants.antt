@@ -1,9 +1,9 @@
 use Rattle.std.proofs.Common.{◌≡◌, ◌<◌, ◌^◌, drop}
 use Rattle.std.specs.Str.Parse.{digits_value, digits_value_after}
-use Rattle.decimal18.proofs.literal.size_of_exponent.Given as goal
+use Rattle.decimal18.proofs.literal.digits_value.Given as goal
 
 abbrev pub invariant-loop-digit : goal.invariant-loop-digit
 invariant-loop-digit l = record {
-  value : digits_value_after 10 l.size (drop l.digit-index l.digits) ≡ digits_value 10 l.digits;
-  below : l.size < 10 ^ l.digit-index;
+  value : digits_value_after 10 l.value (drop l.digit-index l.digits) ≡ digits_value 10 l.digits;
+  below : l.value < 10 ^ l.digit-index;
 }
