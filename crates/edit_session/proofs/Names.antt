@@ -5,7 +5,7 @@ use Rattle.std.proofs.Common.{sym, ◌∙◌, ap, ap₂}
 use Rattle.std.proofs.lemmas.List.{map-append}
 use Rattle.std.proofs.lemmas.Slice.Eq.{bytes_eq-Decides}
 use Rattle.sheet_rows.specs.Rows.{Row, Given, Formula, quantities_of}
-use Rattle.sheet_rows.specs.Sheets.{quantities_in, is_quantity_in}
+use Rattle.sheet_edits.specs.Sheets.{quantities_in, is_quantity_in}
 use Rattle.value_cache.specs.Quantities.{Quantity, is_there}
 use Rattle.edit_session.specs.Replies.{row_quantities}
 

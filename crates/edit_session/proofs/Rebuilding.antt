@@ -6,11 +6,11 @@ use Rattle.std.proofs.lemmas.List.{append_assoc, append-nil, length-map, map-app
 use Rattle.std.proofs.lemmas.List.Folds.{list_any-append, list_all-append}
 use Rattle.std.proofs.lemmas.Bool.{and_parts, or_parts, and_from, not-true}
 use Rattle.sheet_rows.specs.Rows.{Row, Given, Formula, Sheet, name_of, used_names}
-use Rattle.sheet_rows.specs.Sheets.{IsWellFormed, row_limit, is_named, is_among, is_quantity_in, are_named_once, are_known, are_earlier, added, rows_with, set_row}
-use Rattle.sheet_rows.proofs.Conditions.{other_way}
-use Rattle.sheet_rows.proofs.Verdicts.{named_itself, quantity_is_row, list_all_agree}
-use Rattle.sheet_rows.proofs.Adding.{add_complete}
-use Rattle.sheet_rows.proofs.Setting.{set_complete}
+use Rattle.sheet_edits.specs.Sheets.{IsWellFormed, row_limit, is_named, is_among, is_quantity_in, are_named_once, are_known, are_earlier, added, rows_with, set_row}
+use Rattle.sheet_edits.proofs.Conditions.{other_way}
+use Rattle.sheet_edits.proofs.Verdicts.{named_itself, quantity_is_row, list_all_agree}
+use Rattle.sheet_edits.proofs.Adding.{add_complete}
+use Rattle.sheet_edits.proofs.Setting.{set_complete}
 use Rattle.answers.specs.declared.reply.Reply.TheVariants.{Fine}
 use Rattle.answers.specs.Commands.{Edit, Command, Change, Add, Set}
 use Rattle.edit_session.specs.Replies.{reply_to}

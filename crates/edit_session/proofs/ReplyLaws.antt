@@ -3,8 +3,8 @@ use Rattle.std.specs.Prelude.{◌≡◌, ◌↔◌, ℕ, Bool, true, false, if�
 use Rattle.std.proofs.Common.{sym, ◌∙◌, subst}
 use Rattle.std.proofs.lemmas.Bool.{true≢false}
 use Rattle.sheet_rows.specs.Rows.{Sheet}
-use Rattle.sheet_rows.specs.Sheets.{has_quantity}
-use Rattle.sheet_rows.specs.Regular.{IsStanding}
+use Rattle.sheet_edits.specs.Sheets.{has_quantity}
+use Rattle.sheet_edits.specs.Standing.{IsStanding}
 use Rattle.value_cache.specs.Evaluations.{evaluation_of}
 use Rattle.value_cache.specs.declared.evaluation.Evaluation.{Evaluation}
 use Rattle.value_cache.specs.declared.evaluation.Evaluation.TheVariants.{Enclosed, Fault}

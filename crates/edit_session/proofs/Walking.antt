@@ -8,10 +8,11 @@ use Rattle.formula_ast.specs.Trees.{uses}
 use Rattle.formula_ast.specs.Printing.{print}
 use Rattle.formula_ast.proofs.Exponents.{read_exponents}
 use Rattle.sheet_rows.specs.Rows.{Row, Given, Formula, Sheet, name_of}
-use Rattle.sheet_rows.specs.Sheets.{is_among, is_quantity_in, are_named_once, are_known, are_earlier}
-use Rattle.sheet_rows.specs.Regular.{AreRegular, IsStanding}
-use Rattle.sheet_rows.proofs.Conditions.{other_way, all_none}
-use Rattle.sheet_rows.proofs.Verdicts.{added_has, quantity_is_row, list_all_agree}
+use Rattle.sheet_edits.specs.Sheets.{is_among, is_quantity_in, are_named_once, are_known, are_earlier}
+use Rattle.sheet_rows.specs.Regular.{AreRegular}
+use Rattle.sheet_edits.specs.Standing.{IsStanding}
+use Rattle.sheet_edits.proofs.Conditions.{other_way, all_none}
+use Rattle.sheet_edits.proofs.Verdicts.{added_has, quantity_is_row, list_all_agree}
 use Rattle.value_cache.specs.Quantities.{is_there, first_unknown}
 use Rattle.value_cache.specs.Model.{AllHaveExponents}
 use Rattle.value_cache.specs.Evaluable.{IsEvaluable, Keeps}

@@ -2,7 +2,7 @@
 use Rattle.std.specs.Prelude.{ℕ, if◌then◌else◌, List, [], ◌∷◌, Option, None, Some, bytes_eq}
 use Rattle.std.specs.List.{flat_map}
 use Rattle.sheet_rows.specs.Rows.{Row, Given, Formula, Sheet}
-use Rattle.sheet_rows.specs.Sheets.{has_quantity}
+use Rattle.sheet_edits.specs.Sheets.{has_quantity}
 use Rattle.value_cache.specs.Quantities.{Input, Quantity, by_names}
 use Rattle.value_cache.specs.Evaluations.{evaluation_of}
 use Rattle.value_cache.specs.declared.evaluation.Evaluation.{Evaluation}

@@ -1,12 +1,13 @@
 ghost use Rattle.std.specs.Prelude.{◌≡◌, OnErr};
 ghost use Rattle.sheet_rows.specs.Rows.{row_of};
 ghost use Rattle.sheet_rows.specs.Regular.{IsRegular};
-ghost use Rattle.sheet_rows.specs.Places.{IsVerdict};
+ghost use Rattle.sheet_edits.specs.Places.{IsVerdict};
 ghost use Rattle.answers.specs.Commands.{edit_of, IsRegularEdit, Set as SetRow};
 ghost use Rattle.edit_session.specs.Machine.{verdict};
 
 use answers::Edit;
-use sheet_rows::{EditFault, Row, Sheet};
+use sheet_edits::Sheet;
+use sheet_rows::{EditFault, Row};
 
 /// Edits a sheet.
 ///

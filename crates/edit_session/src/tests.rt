@@ -1,17 +1,20 @@
-ghost use Rattle.std.specs.Prelude.{◌≡◌, IfSome};
+ghost use Rattle.std.specs.Prelude.{◌≡◌, true, IfSome};
+ghost use Rattle.formula_ast.specs.Names.{is_plain_name};
 ghost use Rattle.sheet_rows.specs.Rows.{row_of};
 ghost use Rattle.sheet_rows.specs.Regular.{IsRegular};
 
 use crate::Session;
 use answers::{Answer, AskFault, Edit, HistoryFault, MarkFault, Query};
+use decimal18::Dec;
 use fixed_interval::Steps;
 use formula_ast::Name;
-use sheet_rows::{EditFault, Row, RowList, read_row};
+use sheet_rows::{EditFault, Row, RowList};
 use std::alloc::Global;
 use std::marker::Brand;
 use std::process::Abort;
 use std::sync::ledger::{Blank, Ledger};
 use std::test::Fail;
+use type_b::{Dof, Shape};
 
 // A command; rows and marks are named by letters.
 #[derive(Clone, Copy, Debug)]
@@ -97,20 +100,22 @@ const LAST_UNDO: [(Step, Outcome); 4] = [
     (Step::Value(b'X'), Outcome::Number(1)),
 ];
 
-fn letter(byte: u8) -> Option<Name> {
+fn letter(byte: u8) -> Option<Name>
+    ensures { IfSome result (λ name. is_plain_name name ≡ true) }
+{
     Name::plain(&[byte])
 }
 
 // The row of an exact input.
-fn given(alloc: Global, byte: u8, value: i64) -> Option<Row>
+fn given(byte: u8, value: i64) -> Option<Row>
     ensures { IfSome result (λ row. IsRegular (row_of row)) }
 {
-    let name = char::from(byte);
-    let line = format!(in alloc; "given {name} {value} exact").ok()?;
-    match read_row(alloc, line.as_bytes(), 0) {
-        Ok(row) => Some(row),
-        Err(_) => None,
-    }
+    Some(Row::Given {
+        name: letter(byte)?,
+        estimate: Dec::new(value, 0)?,
+        shape: Shape::Exact,
+        dof: Dof::Inf,
+    })
 }
 
 fn of_letter(name: &Name) -> u8 {
@@ -165,14 +170,13 @@ fn place_in(rows: &RowList, name: &Name) -> Outcome {
 }
 
 fn outcome_of<L: Ledger>(
-    alloc: Global,
     session: &mut Session,
     step: Step,
     steps: &mut Steps<L>,
 ) -> Option<Outcome> {
     let outcome = match step {
-        Step::Add(name, value) => of_edit(session.edit(Edit::Add(given(alloc, name, value)?))),
-        Step::Set(name, value) => of_edit(session.edit(Edit::Set(given(alloc, name, value)?))),
+        Step::Add(name, value) => of_edit(session.edit(Edit::Add(given(name, value)?))),
+        Step::Set(name, value) => of_edit(session.edit(Edit::Set(given(name, value)?))),
         Step::Remove(name) => of_edit(session.edit(Edit::Remove(letter(name)?))),
         Step::Undo => of_step(session.undo()),
         Step::Redo => of_step(session.redo()),
@@ -196,34 +200,25 @@ fn outcome_of<L: Ledger>(
 
 fn follow<L: Ledger>(
     rt: &impl Abort,
-    alloc: Global,
     session: &mut Session,
     rows: &[(Step, Outcome)],
     steps: &mut Steps<L>,
 ) {
     for (step, wanted) in rows {
-        assert_eq!(rt; outcome_of(alloc, session, *step, steps), Some(*wanted));
+        assert_eq!(rt; outcome_of(session, *step, steps), Some(*wanted));
     }
 }
 
 // Sets X to each number from 1 to 256, and goes as many steps back.
-fn set_and_undo<L: Ledger>(
-    rt: &impl Abort,
-    alloc: Global,
-    session: &mut Session,
-    steps: &mut Steps<L>,
-) {
+fn set_and_undo<L: Ledger>(rt: &impl Abort, session: &mut Session, steps: &mut Steps<L>) {
     for value in 1..257 {
         assert_eq!(rt;
-            outcome_of(alloc, session, Step::Set(b'X', value), steps),
+            outcome_of(session, Step::Set(b'X', value), steps),
             Some(Outcome::Done)
         );
     }
     for _ in 0..256 {
-        assert_eq!(rt;
-            outcome_of(alloc, session, Step::Undo, steps),
-            Some(Outcome::Done)
-        );
+        assert_eq!(rt; outcome_of(session, Step::Undo, steps), Some(Outcome::Done));
     }
 }
 
@@ -234,16 +229,16 @@ fn run_all<L: Ledger>(rt: &impl Abort, alloc: Global, blank: Blank) -> Result<()
 {
     let mut steps: Steps<L> = Steps::new(blank);
     let mut marked = Session::new(alloc)?;
-    follow(rt, alloc, &mut marked, &MARKS, &mut steps);
+    follow(rt, &mut marked, &MARKS, &mut steps);
     let mut edited = Session::new(alloc)?;
-    follow(rt, alloc, &mut edited, &EDITS, &mut steps);
+    follow(rt, &mut edited, &EDITS, &mut steps);
     let mut session = Session::new(alloc)?;
     assert_eq!(rt;
-        outcome_of(alloc, &mut session, Step::Add(b'X', 0), &mut steps),
+        outcome_of(&mut session, Step::Add(b'X', 0), &mut steps),
         Some(Outcome::Done)
     );
-    set_and_undo(rt, alloc, &mut session, &mut steps);
-    follow(rt, alloc, &mut session, &LAST_UNDO, &mut steps);
+    set_and_undo(rt, &mut session, &mut steps);
+    follow(rt, &mut session, &LAST_UNDO, &mut steps);
     Ok(())
 }
 

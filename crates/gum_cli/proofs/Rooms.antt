@@ -2,7 +2,7 @@
 use Rattle.std.specs.Prelude.{◌≡◌, ℕ, ◌≤◌, List, length, Option, Some, codes, refl}
 use Rattle.std.proofs.Common.{arith, ap, subst, sym, ◌∙◌}
 use Rattle.std.specs.Fmt.{digits}
-use Rattle.sheet_rows.specs.Reading.{row_read}
+use Rattle.row_text.specs.Reading.{row_read}
 use Rattle.value_cache.specs.Evaluations.{evaluation_of}
 use Rattle.script_lines.specs.Blocks.{opens_block, ends_block}
 use Rattle.script_lines.specs.Commands.{line_read}

@@ -4,11 +4,11 @@ use Rattle.std.specs.Prelude.{bytes_eq, codes}
 use Rattle.formula_ast.specs.Names.{is_plain_name, is_name}
 use Rattle.line_text.specs.Words.{Word, words_from, written_part}
 use Rattle.sheet_rows.specs.Rows.{Row}
-use Rattle.sheet_rows.specs.Parts.{Read as ReadRow}
-use Rattle.sheet_rows.specs.Reading.{row_at}
+use Rattle.row_text.specs.Parts.{Read as ReadRow}
+use Rattle.row_text.specs.Reading.{row_at}
 use Rattle.sheet_rows.specs.declared.fault.RowFault.{RowFault}
 use Rattle.sheet_rows.specs.declared.fault.RowFault.TheVariants.{OutOfMemory as RowMemory}
-use Rattle.sheet_rows.proofs.NoMemory.{row_never}
+use Rattle.row_text.proofs.NoMemory.{row_never}
 use Rattle.answers.specs.Commands.{Add, Set, Remove, Change, Undo, Redo, Mark, Restore, Ask, AskAt}
 use Rattle.answers.specs.declared.command.Query.{Query}
 use Rattle.answers.specs.declared.command.Query.TheVariants.{Value, Dump}

@@ -3,9 +3,9 @@ use Rattle.std.specs.Prelude.{ℕ, List, [], ◌∷◌, length, Some, Ok, Err, I
 use Rattle.line_text.specs.Words.{Word, words_from, written_part}
 use Rattle.sheet_rows.specs.Rows.{Row}
 use Rattle.sheet_rows.specs.Regular.{IsRegular}
-use Rattle.sheet_rows.specs.Parts.{Read as ReadRow}
-use Rattle.sheet_rows.specs.Reading.{row_at}
-use Rattle.sheet_rows.proofs.RegularRows.{row_regular, any_ok}
+use Rattle.row_text.specs.Parts.{Read as ReadRow}
+use Rattle.row_text.specs.Reading.{row_at}
+use Rattle.row_text.proofs.RegularRows.{row_regular, any_ok}
 use Rattle.answers.specs.Commands.{IsRegularCommand, Add, Set, Remove, Change, Undo, Redo, Mark, Restore, Ask, AskAt}
 use Rattle.script_lines.specs.declared.item.Item.{Item}
 use Rattle.script_lines.specs.declared.item.Item.TheVariants.{Line, Block, LongLine, LongTable, UnclosedTable}

@@ -4,8 +4,8 @@ use Rattle.std.specs.Prelude.{ℕ, ◌+◌, ◌||◌, Bool, false, if◌then◌e
 use Rattle.formula_ast.specs.Names.{is_plain_name, is_name}
 use Rattle.line_text.specs.Words.{Word, words_from, written_part}
 use Rattle.sheet_rows.specs.Rows.{Row}
-use Rattle.sheet_rows.specs.Parts.{Read as ReadRow}
-use Rattle.sheet_rows.specs.Reading.{begin_formula, row_at}
+use Rattle.row_text.specs.Parts.{Read as ReadRow}
+use Rattle.row_text.specs.Reading.{begin_formula, row_at}
 use Rattle.sheet_rows.specs.declared.fault.RowFault.TheVariants.{NotBuilt as RowNotBuilt}
 use Rattle.answers.specs.Commands.{Command, Add, Set, Remove, Change, Undo, Redo, Mark, Restore, Ask, AskAt}
 use Rattle.answers.specs.declared.command.Query.{Query}

@@ -4,7 +4,7 @@ use Rattle.decimal18.specs.Text.{text_of}
 use Rattle.fixed_interval.specs.declared.faults.ArithFault.{ArithFault}
 use Rattle.fixed_interval.specs.declared.faults.ArithFault.TheVariants.{ZeroDivisor, Overflow}
 use Rattle.sheet_rows.specs.Rows.{Row}
-use Rattle.sheet_rows.specs.Printing.{printed}
+use Rattle.row_text.specs.Printing.{printed}
 use Rattle.sheet_rows.specs.declared.fault.RowFault.{RowFault}
 use Rattle.sheet_rows.specs.declared.fault.RowFault.TheVariants.{Syntax, NotNumber, NumberRange, UnknownFunction, BadPower, TooDeep, TooManyNodes, Negative, ZeroK, Beta, Level, DofRange, NotBuilt, OutOfMemory}
 use Rattle.sheet_rows.specs.declared.edit_fault.EditFault.{EditFault}

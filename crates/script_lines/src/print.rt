@@ -14,7 +14,8 @@ use decimal18::Dec;
 use fixed_interval::{ArithFault, Span};
 use formula_ast::Name;
 use line_text::{Bytes, OutOfMemory};
-use sheet_rows::{Row, print_row};
+use row_text::print_row;
+use sheet_rows::Row;
 use std::alloc::Global;
 use std::rc::Rc;
 

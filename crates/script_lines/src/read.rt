@@ -5,7 +5,7 @@ ghost use Rattle.line_text.specs.Memory.{GivesBy};
 ghost use Rattle.line_text.specs.Words.{word_of, words_left, words_from, written_part};
 ghost use Rattle.sheet_rows.specs.Rows.{row_of};
 ghost use Rattle.sheet_rows.specs.Regular.{IsRegular};
-ghost use Rattle.sheet_rows.specs.Reading.{begin_formula, row_at};
+ghost use Rattle.row_text.specs.Reading.{begin_formula, row_at};
 ghost use Rattle.answers.specs.Commands.{command_of, IsRegularCommand};
 ghost use Rattle.script_lines.specs.Commands.{row_of_line, command_with, line_read, command_read, gives_formula_with, words_give_formula, gives_formula};
 
@@ -14,7 +14,8 @@ use crate::verb::{Verb, verb_of};
 use crate::words_after::{alone, read_begun_query, read_name, read_query_at};
 use answers::{Command, Edit, LineFault};
 use line_text::{Word, Words, written_part};
-use sheet_rows::{Row, RowFault, read_begun_row, read_row_words};
+use row_text::{read_begun_row, read_row_words};
+use sheet_rows::{Row, RowFault};
 use std::alloc::Global;
 
 /// The row that these words of a line give.

@@ -8,7 +8,8 @@ use answers::{Answer, AskFault, Command, Edit, HistoryFault, LineFault, MarkFaul
 use fixed_interval::ArithFault;
 use formula_ast::Name;
 use line_text::Bytes;
-use sheet_rows::{EditFault, RowFault, RowList, read_row};
+use row_text::read_row;
+use sheet_rows::{EditFault, RowFault, RowList};
 use std::alloc::Global;
 use std::rc::Rc;
 use std::test::Fail;

@@ -7,8 +7,7 @@ use Rattle.formula_ast.specs.Names.{is_plain_name}
 use Rattle.formula_ast.specs.Printing.{print}
 use Rattle.formula_ast.specs.Reading.{reading_of}
 use Rattle.type_b.specs.Shapes.{HasDecimals, checked, IsDegrees}
-use Rattle.sheet_rows.specs.Rows.{Row, Given, Formula, Sheet}
-use Rattle.sheet_rows.specs.Sheets.{IsWellFormed}
+use Rattle.sheet_rows.specs.Rows.{Row, Given, Formula}
 
 abbrev pub IsRegular : Row → Type 0
 IsRegular (Given name estimate shape dof) =
@@ -18,8 +17,3 @@ IsRegular (Formula name f) = (is_plain_name name ≡ true) × (reading_of (print
 abbrev pub AreRegular : List Row → Type 0
 AreRegular [] = Unit {0}
 AreRegular (row ∷ rows) = IsRegular row × AreRegular rows
-
--- what holds of each sheet that edits make: it is well formed, and its rows are regular
-pub record IsStanding (sheet : Sheet) : Type 0 where
-  pub well_formed : IsWellFormed sheet
-  pub regular : AreRegular sheet.rows

@@ -49,7 +49,7 @@ impl From<OutOfMemory> for RowFault {
 
 impl From<ShapeFault> for RowFault {
     ghost use Rattle.std.specs.Prelude.{◌≡◌};
-    ghost use Rattle.sheet_rows.specs.Givens.{shape_fault};
+    ghost use Rattle.sheet_rows.specs.Faults.{shape_fault};
 
     ghost from_gives = { λ fault row_fault. row_fault ≡ shape_fault fault };
 

@@ -12,7 +12,7 @@ use Rattle.fixed_interval.specs.Rules.{quotient, holds_zero}
 use Rattle.fixed_interval.specs.Powers.{power_span}
 use Rattle.formula_ast.specs.Reading.{reading_of}
 use Rattle.formula_box.specs.Values.{span_of}
-use Rattle.sheet_rows.specs.Reading.{row_read}
+use Rattle.row_text.specs.Reading.{row_read}
 use Rattle.value_cache.specs.Evaluations.{evaluation_of}
 use Rattle.script_lines.specs.Blocks.{opens_block, ends_block}
 use Rattle.script_lines.specs.Commands.{line_read}

@@ -1,7 +1,7 @@
 use Rattle.std.proofs.Common.{refl}
 use Rattle.decimal18.specs.Literal.{parsed}
 use Rattle.formula_ast.specs.Reading.{reading_of}
-use Rattle.sheet_rows.specs.Reading.{row_read}
+use Rattle.row_text.specs.Reading.{row_read}
 use Rattle.script_lines.specs.Commands.{line_read}
 use Rattle.script_lines.proofs.worked.worked_commands.Goals as goal
 

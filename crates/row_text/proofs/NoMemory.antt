@@ -1,0 +1,182 @@
+-- What a line gives as a row is never out of memory.
+use Rattle.std.proofs.Common.{◌≡◌, ◌≢◌, ℕ, Bool, true, false, cond, List, [], ◌∷◌, ◌+◌, length, drop, Result, Option, None, Some, Ok, Err, IfErr, refl, subst}
+use Rattle.std.specs.Prelude.{codes, bytes_eq, if◌then◌else◌}
+use Rattle.decimal18.specs.Bound.{Bound}
+use Rattle.decimal18.specs.Literal.{parsed}
+use Rattle.decimal18.specs.declared.literal.NumFault.{NumFault}
+use Rattle.decimal18.specs.declared.literal.NumFault.TheVariants.{NotNumber as NoLiteral, NumberRange as NoBound}
+use Rattle.formula_ast.specs.Names.{is_plain_name}
+use Rattle.formula_ast.specs.Trees.{Tree}
+use Rattle.formula_ast.specs.Reading.{reading_of}
+use Rattle.formula_ast.specs.declared.fault.FormulaFault.{FormulaFault}
+use Rattle.formula_ast.specs.declared.fault.FormulaFault.TheVariants.{Syntax as FormulaSyntax, UnknownFunction as FormulaFunction, Number as FormulaNumber, BadPower as FormulaPower, TooDeep as FormulaDeep, TooMany as FormulaMany, OutOfMemory as FormulaMemory}
+use Rattle.formula_ast.proofs.NoMemory.{never_memory as formula_never}
+use Rattle.line_text.specs.Words.{Word, written_part, words_from}
+use Rattle.type_b.specs.Shapes.{checked}
+use Rattle.type_b.specs.declared.shape.ShapeFault.{ShapeFault}
+use Rattle.type_b.specs.declared.shape.ShapeFault.TheVariants.{Negative as NegativeShape, ZeroK as ZeroFactor, Beta as OtherBeta, Level as OtherLevel}
+use Rattle.type_b.specs.declared.shape.Shape.{Shape}
+use Rattle.type_b.specs.declared.shape.Shape.TheVariants.{Std, Exp, Norm, Rect, Tri, Trap, Arcsine}
+use Rattle.type_b.specs.declared.shape.Dof.{Dof}
+use Rattle.row_text.specs.Parts.{Read, then_read, any_word, plain_word, number_in, number_word, ended}
+use Rattle.row_text.specs.Givens.{kind_of, level_of, with_number, with_numbers, with_level, shape_of_kind, shape_named, shape_word, dof_of, rel_of, degrees_word, shape_checked, degrees_checked, given_of}
+use Rattle.row_text.specs.Reading.{is_other_kind, past_blanks, leading_name, name_at, begins_equals, equals_at, formula_fault, formula_in, formula_at, let_of, row_at, row_read}
+use Rattle.row_text.specs.declared.read_shape.ShapeKind.{ShapeKind}
+use Rattle.row_text.specs.declared.read_shape.ShapeKind.TheVariants.{Exact as ExactKind, Std as StdKind, Exp as ExpKind, Norm as NormKind, Rect as RectKind, Tri as TriKind, Trap as TrapKind, Arcsine as ArcsineKind}
+use Rattle.sheet_rows.specs.declared.row.Row.{Row as CodeRow}
+use Rattle.sheet_rows.specs.declared.fault.RowFault.{RowFault}
+use Rattle.sheet_rows.specs.declared.fault.RowFault.TheVariants.{Syntax, NotNumber, NumberRange, UnknownFunction, BadPower, TooDeep, TooManyNodes, Negative, ZeroK, Beta, Level, DofRange, NotBuilt, OutOfMemory}
+
+abbrev IsNoMemory : RowFault → Type 0
+IsNoMemory OutOfMemory = ⊥
+IsNoMemory (Syntax at) = Unit {0}
+IsNoMemory (NotNumber at) = Unit {0}
+IsNoMemory (NumberRange at) = Unit {0}
+IsNoMemory (UnknownFunction at) = Unit {0}
+IsNoMemory (BadPower at) = Unit {0}
+IsNoMemory (TooDeep at) = Unit {0}
+IsNoMemory (TooManyNodes at) = Unit {0}
+IsNoMemory Negative = Unit {0}
+IsNoMemory ZeroK = Unit {0}
+IsNoMemory Beta = Unit {0}
+IsNoMemory Level = Unit {0}
+IsNoMemory DofRange = Unit {0}
+IsNoMemory NotBuilt = Unit {0}
+
+abbrev IfFailed : {A : Type 0} → Read A → Type 0
+IfFailed (Ok x) = Unit {0}
+IfFailed (Err fault) = IsNoMemory fault
+
+then_failed : {A B : Type 0} (r : Read A) (next : A → Read B) → IfFailed r → ((x : A) → IfFailed (next x)) → IfFailed (then_read r next)
+then_failed (Err fault) next h k = h
+then_failed (Ok x) next h k = k x
+
+cond_failed : {A : Type 0} (t : Bool) (a b : Read A) → IfFailed a → IfFailed b → IfFailed (cond t a b)
+cond_failed true a b h k = h
+cond_failed false a b h k = k
+
+plain_failed : (end : ℕ) (ws : List Word) → IfFailed (plain_word end ws)
+plain_failed end [] = tt
+plain_failed end (w ∷ ws) = cond_failed (is_plain_name w.text) _ (Err (Syntax (w.place + 1))) tt tt
+
+number_in_failed : (w : Word) (ws : List Word) (r : Result Bound NumFault) → IfFailed (number_in w ws r)
+number_in_failed w ws (Ok b) = tt
+number_in_failed w ws (Err NoLiteral) = tt
+number_in_failed w ws (Err NoBound) = tt
+
+number_failed : (end : ℕ) (ws : List Word) → IfFailed (number_word end ws)
+number_failed end [] = tt
+number_failed end (w ∷ ws) = number_in_failed w ws (parsed w.text)
+
+word_failed : {A : Type 0} (meaning : List ℕ → A) (end : ℕ) (ws : List Word) → IfFailed (any_word meaning end ws)
+word_failed meaning end [] = tt
+word_failed meaning end (w ∷ ws) = tt
+
+ended_failed : (ws : List Word) → IfFailed (ended ws)
+ended_failed [] = tt
+ended_failed (w ∷ ws) = tt
+
+-- ---- inputs
+one_failed : (make : Bound → Shape) (end : ℕ) (ws : List Word) → IfFailed (with_number make end ws)
+one_failed make end ws = then_failed (number_word end ws) (λ a. Ok (record { item = make a.item; rest = a.rest })) (number_failed end ws) (λ a. tt)
+
+two_failed : (make : Bound → Bound → Shape) (end : ℕ) (ws : List Word) → IfFailed (with_numbers make end ws)
+two_failed make end ws =
+    then_failed (number_word end ws) (λ a. with_number (make a.item) end a.rest) (number_failed end ws) (λ a. one_failed (make a.item) end a.rest)
+
+level_failed : (make : Bound → ℕ → Shape) (end : ℕ) (ws : List Word) → IfFailed (with_level make end ws)
+level_failed make end ws =
+    then_failed (number_word end ws) _ (number_failed end ws) (λ a.
+    then_failed (any_word level_of end a.rest) (λ level. Ok (record { item = make a.item level.item; rest = level.rest }))
+    (word_failed level_of end a.rest) (λ level. tt))
+
+kind_failed : (kind : ShapeKind) (end : ℕ) (ws : List Word) → IfFailed (shape_of_kind kind end ws)
+kind_failed ExactKind end ws = tt
+kind_failed StdKind end ws = one_failed Std end ws
+kind_failed ExpKind end ws = two_failed Exp end ws
+kind_failed NormKind end ws = level_failed Norm end ws
+kind_failed RectKind end ws = one_failed Rect end ws
+kind_failed TriKind end ws = one_failed Tri end ws
+kind_failed TrapKind end ws = two_failed Trap end ws
+kind_failed ArcsineKind end ws = one_failed Arcsine end ws
+
+named_failed : (o : Option ShapeKind) (end : ℕ) (w : Word) (ws : List Word) → IfFailed (shape_named o end w ws)
+named_failed None end w ws = tt
+named_failed (Some kind) end w ws = kind_failed kind end ws
+
+shape_failed : (end : ℕ) (ws : List Word) → IfFailed (shape_word end ws)
+shape_failed end [] = tt
+shape_failed end (w ∷ ws) = named_failed (kind_of w.text) end w ws
+
+degrees_failed : (end : ℕ) (ws : List Word) → IfFailed (degrees_word end ws)
+degrees_failed end [] = tt
+degrees_failed end (w ∷ ws) =
+    cond_failed (bytes_eq w.text (codes "dof")) (any_word dof_of end ws) _ (word_failed dof_of end ws)
+    (cond_failed (bytes_eq w.text (codes "rel")) (any_word rel_of end ws) (Err (Syntax (w.place + 1))) (word_failed rel_of end ws) tt)
+
+checked_failed : (r : Result Unit ShapeFault) → IfFailed (shape_checked r)
+checked_failed (Ok done) = tt
+checked_failed (Err NegativeShape) = tt
+checked_failed (Err ZeroFactor) = tt
+checked_failed (Err OtherBeta) = tt
+checked_failed (Err OtherLevel) = tt
+
+stated_failed : (o : Option Dof) → IfFailed (degrees_checked o)
+stated_failed None = tt
+stated_failed (Some dof) = tt
+
+given_failed : (end : ℕ) (ws : List Word) → IfFailed (given_of end ws)
+given_failed end ws =
+    then_failed (plain_word end ws) _ (plain_failed end ws) (λ name.
+    then_failed (number_word end name.rest) _ (number_failed end name.rest) (λ estimate.
+    then_failed (shape_word end estimate.rest) _ (shape_failed end estimate.rest) (λ shape.
+    then_failed (degrees_word end shape.rest) _ (degrees_failed end shape.rest) (λ dof.
+    then_failed (ended dof.rest) _ (ended_failed dof.rest) (λ done.
+    then_failed (shape_checked (checked shape.item)) _ (checked_failed (checked shape.item)) (λ fine.
+    then_failed (degrees_checked dof.item) _ (stated_failed dof.item) (λ degrees. tt)))))))
+
+-- the reading of an input takes no memory
+pub given_takes_none : (r : Result CodeRow RowFault) (end : ℕ) (ws : List Word) → IfErr r (λ fault. given_of end ws ≡ Err fault)
+    → r ≢ Err OutOfMemory
+given_takes_none (Ok row) end ws h e = cc
+given_takes_none (Err fault) end ws h e =
+    let out : fault ≡ OutOfMemory = cc in
+    subst IfFailed (subst (λ f. given_of end ws ≡ Err f) out h) (given_failed end ws)
+
+-- ---- formulas
+fault_failed : (at : ℕ) (fault : FormulaFault) → fault ≢ FormulaMemory → IsNoMemory (formula_fault at fault)
+fault_failed at (FormulaSyntax k) h = tt
+fault_failed at (FormulaFunction k) h = tt
+fault_failed at (FormulaNumber NoLiteral k) h = tt
+fault_failed at (FormulaNumber NoBound k) h = tt
+fault_failed at (FormulaPower k) h = tt
+fault_failed at (FormulaDeep k) h = tt
+fault_failed at (FormulaMany k) h = tt
+fault_failed at FormulaMemory h = h refl
+
+formula_failed : (at : ℕ) (r : Result Tree FormulaFault) → ((fault : FormulaFault) → r ≡ Err fault → fault ≢ FormulaMemory) → IfFailed (formula_in at r)
+formula_failed at (Ok f) h = tt
+formula_failed at (Err fault) h = fault_failed at fault (h fault refl)
+
+no_formula_memory : (text : List ℕ) (fault : FormulaFault) → reading_of text ≡ Err fault → fault ≢ FormulaMemory
+no_formula_memory text fault h e = formula_never text (rw e at h)
+
+let_failed : (line : List ℕ) (at : ℕ) → IfFailed (let_of line at)
+let_failed line at =
+    then_failed (name_at line (past_blanks line at)) _ (cond_failed (is_plain_name (leading_name (drop (past_blanks line at) line))) _ (Err (Syntax (past_blanks line at + 1))) tt tt) (λ name.
+    then_failed (equals_at line (past_blanks line name.at)) _ (cond_failed (begins_equals (drop (past_blanks line name.at) line)) _ (Err (Syntax (past_blanks line name.at + 1))) tt tt) (λ start.
+    then_failed (formula_at line start) _ (formula_failed start (reading_of (drop start line)) (no_formula_memory (drop start line))) (λ f. tt)))
+
+row_failed : (line : List ℕ) (ws : List Word) → IfFailed (row_at line ws)
+row_failed line [] = tt
+row_failed line (w ∷ ws) =
+    cond_failed (bytes_eq w.text (codes "given")) _ _ (given_failed (length line) ws)
+    (cond_failed (bytes_eq w.text (codes "let")) (let_of line (w.place + length w.text)) (if is_other_kind w.text then Err NotBuilt else Err (Syntax (w.place + 1)))
+    (let_failed line (w.place + length w.text)) (cond_failed (is_other_kind w.text) (Err NotBuilt) (Err (Syntax (w.place + 1))) tt tt))
+
+pub row_never : (line : List ℕ) (ws : List Word) → row_at line ws ≢ Err OutOfMemory
+row_never line ws h = subst IfFailed h (row_failed line ws)
+
+pub never_memory : (line : List ℕ) (from : ℕ) → row_read line from ≢ Err OutOfMemory
+unfolding row_read
+never_memory line from = row_never (written_part line) (words_from (written_part line) from)

@@ -1,0 +1,123 @@
+-- The bytes of names and numbers: none is a blank, `#` or `=`.
+use Rattle.std.proofs.lemmas.Bool.{and_parts, and_from}
+use Rattle.std.proofs.Common.{◌≡◌, ℕ, zero, suc, ◌+◌, ◌/◌, ◌%◌, ◌^◌, ◌<◌, ◌&&◌, Bool, true, List, [], ◌∷◌, ◌++◌, length, refl, ◌∙◌, arith, length-append}
+use Rattle.std.specs.Prelude.{ℤ, pos, negsuc, unsigned_abs, decimal}
+use Rattle.std.specs.List.{list_all}
+use Rattle.std.specs.Char.{is_ascii_digit}
+use Rattle.std.proofs.Math.Nat.{div-le_self}
+use Rattle.std.proofs.lemmas.Bool.Decides.{nat_tests}
+use Rattle.std.proofs.lemmas.Fmt.{digits_decimal, decimal_nonempty}
+use Rattle.std.proofs.lemmas.List.Folds.{list_all-append}
+use Rattle.decimal18.specs.Bound.{Bound, IsBound}
+use Rattle.decimal18.specs.Text.{last_digits, sign_of, after_point, text_of}
+use Rattle.decimal18.proofs.LiteralDigits.{numerals}
+use Rattle.formula_ast.specs.Names.{begins_name, goes_on_name, is_plain_name}
+use Rattle.formula_ast.specs.Tokens.{goes_on_run}
+use Rattle.formula_ast.specs.Printing.{exponent_text}
+use Rattle.line_text.specs.Words.{is_in_word, is_no_hash}
+use Rattle.row_text.specs.Reading.{is_in_name}
+
+abbrev pub is_plain : ℕ → Bool
+is_plain byte = is_in_word byte && (is_no_hash byte && is_in_name byte)
+
+abbrev pub ArePlain : List ℕ → Type 0
+ArePlain text = list_all is_plain text ≡ true
+
+pub weaker : (p q : ℕ → Bool) → ((byte : ℕ) → p byte ≡ true → q byte ≡ true) → (text : List ℕ) → list_all p text ≡ true → list_all q text ≡ true
+weaker p q h [] all = refl
+weaker p q h (byte ∷ bytes) all =
+    let parts = and_parts (p byte) (list_all p bytes) all in
+    and_from (q byte) (list_all q bytes) (h byte parts.0) (weaker p q h bytes parts.1)
+
+pub all_in_word : (text : List ℕ) → ArePlain text → list_all is_in_word text ≡ true
+all_in_word text all = weaker is_plain is_in_word (λ byte h. (and_parts (is_in_word byte) (is_no_hash byte && is_in_name byte) h).0) text all
+
+pub all_no_hash : (text : List ℕ) → ArePlain text → list_all is_no_hash text ≡ true
+all_no_hash text all =
+    weaker is_plain is_no_hash
+    (λ byte h. (and_parts (is_no_hash byte) (is_in_name byte) (and_parts (is_in_word byte) (is_no_hash byte && is_in_name byte) h).1).0) text all
+
+pub all_in_name : (text : List ℕ) → ArePlain text → list_all is_in_name text ≡ true
+all_in_name text all =
+    weaker is_plain is_in_name
+    (λ byte h. (and_parts (is_no_hash byte) (is_in_name byte) (and_parts (is_in_word byte) (is_no_hash byte && is_in_name byte) h).1).1) text all
+
+pub plain_append : (xs ys : List ℕ) → ArePlain xs → ArePlain ys → ArePlain (xs ++ ys)
+plain_append xs ys h k = list_all-append is_plain xs ys ∙ and_from _ _ h k
+
+-- ---- names
+run_plain : (byte : ℕ) → goes_on_run byte ≡ true → is_plain byte ≡ true
+run_plain byte h = grind (arith, nat_tests)
+
+name_plain : (byte : ℕ) → goes_on_name byte ≡ true → is_plain byte ≡ true
+name_plain byte h = grind (arith, nat_tests)
+
+first_plain : (byte : ℕ) → begins_name byte ≡ true → is_plain byte ≡ true
+first_plain byte h = grind (arith, nat_tests)
+
+pub runs_plain : (text : List ℕ) → list_all goes_on_run text ≡ true → ArePlain text
+runs_plain text all = weaker goes_on_run is_plain run_plain text all
+
+pub names_plain : (text : List ℕ) → is_plain_name text ≡ true → ArePlain text
+names_plain [] h = refl
+names_plain (byte ∷ bytes) h =
+    let parts = and_parts (begins_name byte) _ h in
+    let others = and_parts (list_all goes_on_name bytes) _ parts.1 in
+    and_from (is_plain byte) (list_all is_plain bytes) (first_plain byte parts.0) (weaker goes_on_name is_plain name_plain bytes others.0)
+
+pub name_some : (text : List ℕ) → is_plain_name text ≡ true → 0 < length text
+name_some [] h = absurd (cc)
+name_some (byte ∷ bytes) h = omega arith
+
+-- ---- numbers
+digit_plain : (byte : ℕ) → is_ascii_digit byte ≡ true → is_plain byte ≡ true
+digit_plain byte h = grind (arith, nat_tests)
+
+last_plain : (p n : ℕ) → ArePlain (last_digits p n)
+last_plain zero n = refl
+last_plain (suc p) n =
+    plain_append (last_digits p (n / 10)) ((48 + n % 10) ∷ []) (last_plain p (n / 10))
+    (and_from (is_plain (48 + n % 10)) true (digit_plain (48 + n % 10) (digit (n % 10) (omega arith))) refl) where
+      digit : (d : ℕ) → d < 10 → is_ascii_digit (48 + d) ≡ true
+      digit d below = grind (arith, nat_tests)
+
+point_plain : (p n : ℕ) → ArePlain (after_point p n)
+point_plain zero n = refl
+point_plain (suc p) n = last_plain (suc p) n
+
+pub decimal_plain : (n : ℕ) → n < 2 ^ 64 → ArePlain (decimal n)
+decimal_plain n small = weaker is_ascii_digit is_plain digit_plain (decimal n) (digits_decimal numerals n small)
+
+sign_plain : (k : ℤ) → ArePlain (sign_of k)
+sign_plain (pos n) = refl
+sign_plain (negsuc n) = refl
+
+some_append : (xs ys : List ℕ) → 0 < length ys → 0 < length (xs ++ ys)
+some_append xs ys some = omega (arith, length-append xs ys, some)
+
+some_first : (xs ys : List ℕ) → 0 < length xs → 0 < length (xs ++ ys)
+some_first xs ys some = omega (arith, length-append xs ys, some)
+
+whole_small : (b : Bound) → IsBound b → unsigned_abs b.coefficient / 10 ^ b.places < 2 ^ 64
+whole_small b h = omega (arith, h.digits, div-le_self (unsigned_abs b.coefficient) (10 ^ b.places))
+
+pub text_plain : (b : Bound) → IsBound b → ArePlain (text_of b)
+text_plain b h =
+    let size : ℕ = unsigned_abs b.coefficient in
+    let whole : ℕ = size / 10 ^ b.places in
+    plain_append (sign_of b.coefficient ++ decimal whole) (after_point b.places size)
+    (plain_append (sign_of b.coefficient) (decimal whole) (sign_plain b.coefficient) (decimal_plain whole (whole_small b h)))
+    (point_plain b.places size)
+
+pub text_some : (b : Bound) → IsBound b → 0 < length (text_of b)
+text_some b h =
+    let size : ℕ = unsigned_abs b.coefficient in
+    let whole : ℕ = size / 10 ^ b.places in
+    some_first (sign_of b.coefficient ++ decimal whole) (after_point b.places size)
+    (some_append (sign_of b.coefficient) (decimal whole) (decimal_nonempty whole (whole_small b h)))
+
+pub exponent_plain : (k : ℤ) → unsigned_abs k < 2 ^ 64 → ArePlain (exponent_text k)
+exponent_plain k small = plain_append (sign_of k) (decimal (unsigned_abs k)) (sign_plain k) (decimal_plain (unsigned_abs k) small)
+
+pub exponent_some : (k : ℤ) → unsigned_abs k < 2 ^ 64 → 0 < length (exponent_text k)
+exponent_some k small = some_append (sign_of k) (decimal (unsigned_abs k)) (decimal_nonempty (unsigned_abs k) small)

@@ -1,0 +1,207 @@
+-- What lines give are regular rows.
+use Rattle.std.proofs.Common.{◌≡◌, ℕ, ◌+◌, Bool, true, false, cond, List, [], ◌∷◌, length, drop, refl, subst, arith, Option, None, Some, Result, Ok, Err, IfOk}
+use Rattle.std.specs.Prelude.{codes, bytes_eq, option_map, IfSome, if◌then◌else◌}
+use Rattle.std.proofs.lemmas.Bool.Decides.{nat_tests}
+use Rattle.decimal18.specs.Bound.{Bound, canonical, IsCanonical, IsDecimal}
+use Rattle.decimal18.specs.Literal.{Literal, literal_of, exact_of, is_bound, as_bound, read, parsed}
+use Rattle.decimal18.specs.declared.literal.NumFault.{NumFault}
+use Rattle.decimal18.specs.declared.literal.NumFault.TheVariants.{NotNumber as NoLiteral, NumberRange as NoBound}
+use Rattle.decimal18.proofs.Canonical.{IsReduced-canonical}
+use Rattle.decimal18.proofs.LiteralRead.{ok_of}
+use Rattle.formula_ast.specs.Names.{is_plain_name}
+use Rattle.formula_ast.specs.Trees.{Tree}
+use Rattle.formula_ast.specs.Printing.{print}
+use Rattle.formula_ast.specs.Reading.{reading_of}
+use Rattle.formula_ast.specs.declared.fault.FormulaFault.{FormulaFault}
+use Rattle.formula_ast.proofs.Again.{read_again}
+use Rattle.line_text.specs.Words.{Word, written_part, words_from}
+use Rattle.type_b.specs.Shapes.{HasDecimals, checked, are_degrees, IsDegrees}
+use Rattle.type_b.specs.declared.shape.Shape.{Shape}
+use Rattle.type_b.specs.declared.shape.Shape.TheVariants.{Std, Exp, Norm, Rect, Tri, Trap, Arcsine}
+use Rattle.type_b.specs.declared.shape.Dof.{Dof}
+use Rattle.type_b.specs.declared.shape.Dof.TheVariants.{Inf, Whole, Rel}
+use Rattle.type_b.specs.declared.shape.ShapeFault.{ShapeFault}
+use Rattle.sheet_rows.specs.Rows.{Row}
+use Rattle.row_text.specs.Parts.{Read, then_read, Parsed, any_word, plain_word, number_in, number_word, ended}
+use Rattle.row_text.specs.Givens.{kind_of, level_of, with_number, with_numbers, with_level, shape_of_kind, shape_named, shape_word, whole_of, allowed, dof_of, rel_of, degrees_word, shape_checked, degrees_checked, given_of}
+use Rattle.row_text.specs.Reading.{is_other_kind, past_blanks, leading_name, name_at, equals_at, formula_in, formula_at, let_of, row_at, row_read}
+use Rattle.row_text.specs.declared.read_shape.ShapeKind.{ShapeKind}
+use Rattle.row_text.specs.declared.read_shape.ShapeKind.TheVariants.{Exact as ExactKind, Std as StdKind, Exp as ExpKind, Norm as NormKind, Rect as RectKind, Tri as TriKind, Trap as TrapKind, Arcsine as ArcsineKind}
+use Rattle.sheet_rows.specs.Regular.{IsRegular}
+use Rattle.sheet_rows.specs.declared.fault.RowFault.TheVariants.{Syntax, NotBuilt}
+
+-- ---- numbers
+bound_decimal : (c : Bound) (t : Bool) → is_bound c ≡ t → IsCanonical c → (b : Bound) → cond t (Some c) None ≡ Some b → IsDecimal b
+bound_decimal c false e least b h = absurd (cc)
+bound_decimal c true e least b h =
+    let same : c ≡ b = cc in
+    subst IsDecimal same (record { bound = record { digits = grind (arith, nat_tests); most = grind (arith, nat_tests) }; canonical = least })
+
+literal_decimal : (o : Option Literal) (b : Bound) → read o ≡ Ok b → IsDecimal b
+literal_decimal None b h = absurd (cc)
+literal_decimal (Some l) b h =
+    let exact : Bound = exact_of l in
+    let c : Bound = canonical exact.coefficient exact.places in
+    bound_decimal c (is_bound c) refl (IsReduced-canonical exact.coefficient exact.places).canonical b (ok_of (as_bound exact) b h)
+
+parsed_decimal : (text : List ℕ) (b : Bound) → parsed text ≡ Ok b → IsDecimal b
+unfolding parsed
+parsed_decimal text b h = literal_decimal (literal_of text) b h
+
+-- ---- what is read, part by part
+cond_ok : {A : Type 0} (P : A → Type 0) (t : Bool) (a b : Read A) → (t ≡ true → IfOk a P) → IfOk b P → IfOk (cond t a b) P
+cond_ok P true a b h k = h refl
+cond_ok P false a b h k = k
+
+then_ok : {A B : Type 0} (P : A → Type 0) (Q : B → Type 0) (r : Read A) (next : A → Read B) → IfOk r P →
+    ((x : A) → P x → IfOk (next x) Q) → IfOk (then_read r next) Q
+then_ok P Q (Err fault) next h k = tt
+then_ok P Q (Ok x) next h k = k x h
+
+pub any_ok : {A E : Type 0} (r : Result A E) → IfOk r (λ x. Unit {0})
+any_ok (Ok x) = tt
+any_ok (Err fault) = tt
+
+plain_ok : (end : ℕ) (ws : List Word) → IfOk (plain_word end ws) (λ x. is_plain_name x.item ≡ true)
+plain_ok end [] = tt
+plain_ok end (w ∷ ws) =
+    cond_ok (λ x. is_plain_name x.item ≡ true) (is_plain_name w.text) (Ok (record { item = w.text; rest = ws })) (Err (Syntax (w.place + 1)))
+    (λ plain. plain) tt
+
+literal_ok : (w : Word) (ws : List Word) (r : Result Bound NumFault) → ((b : Bound) → r ≡ Ok b → IsDecimal b) →
+    IfOk (number_in w ws r) (λ x. IsDecimal x.item)
+literal_ok w ws (Ok b) h = h b refl
+literal_ok w ws (Err NoLiteral) h = tt
+literal_ok w ws (Err NoBound) h = tt
+
+number_ok : (end : ℕ) (ws : List Word) → IfOk (number_word end ws) (λ x. IsDecimal x.item)
+number_ok end [] = tt
+number_ok end (w ∷ ws) = literal_ok w ws (parsed w.text) (λ b h. parsed_decimal w.text b h)
+
+checked_ok : (r : Result Unit ShapeFault) → IfOk (shape_checked r) (λ done. r ≡ Ok (record {}))
+checked_ok (Ok done) = refl
+checked_ok (Err fault) = tt
+
+-- ---- shapes
+abbrev HasNumbers : Parsed Shape → Type 0
+HasNumbers x = HasDecimals x.item
+
+one_ok : (make : Bound → Shape) → ((a : Bound) → IsDecimal a → HasDecimals (make a)) → (end : ℕ) (ws : List Word) →
+    IfOk (with_number make end ws) HasNumbers
+one_ok make h end ws =
+    then_ok (λ x. IsDecimal x.item) HasNumbers (number_word end ws) (λ a. Ok (record { item = make a.item; rest = a.rest })) (number_ok end ws)
+    (λ a d. h a.item d)
+
+two_ok : (make : Bound → Bound → Shape) → ((a b : Bound) → IsDecimal a → IsDecimal b → HasDecimals (make a b)) → (end : ℕ) (ws : List Word) →
+    IfOk (with_numbers make end ws) HasNumbers
+two_ok make h end ws =
+    then_ok (λ x. IsDecimal x.item) HasNumbers (number_word end ws) (λ a. with_number (make a.item) end a.rest) (number_ok end ws)
+    (λ a d. one_ok (make a.item) (λ b e. h a.item b d e) end a.rest)
+
+level_ok : (make : Bound → ℕ → Shape) → ((a : Bound) (level : ℕ) → IsDecimal a → HasDecimals (make a level)) → (end : ℕ) (ws : List Word) →
+    IfOk (with_level make end ws) HasNumbers
+level_ok make h end ws =
+    then_ok (λ x. IsDecimal x.item) HasNumbers (number_word end ws) _ (number_ok end ws) (λ a d.
+    then_ok (λ x. Unit {0}) HasNumbers (any_word level_of end a.rest) (λ level. Ok (record { item = make a.item level.item; rest = level.rest }))
+    (any_ok (any_word level_of end a.rest)) (λ level u. h a.item level.item d))
+
+kind_ok : (kind : ShapeKind) (end : ℕ) (ws : List Word) → IfOk (shape_of_kind kind end ws) HasNumbers
+kind_ok ExactKind end ws = tt
+kind_ok StdKind end ws = one_ok Std (λ a d. d) end ws
+kind_ok ExpKind end ws = two_ok Exp (λ a b d e. (d, e)) end ws
+kind_ok NormKind end ws = level_ok Norm (λ a level d. d) end ws
+kind_ok RectKind end ws = one_ok Rect (λ a d. d) end ws
+kind_ok TriKind end ws = one_ok Tri (λ a d. d) end ws
+kind_ok TrapKind end ws = two_ok Trap (λ a b d e. (d, e)) end ws
+kind_ok ArcsineKind end ws = one_ok Arcsine (λ a d. d) end ws
+
+named_ok : (o : Option ShapeKind) (end : ℕ) (w : Word) (ws : List Word) → IfOk (shape_named o end w ws) HasNumbers
+named_ok None end w ws = tt
+named_ok (Some kind) end w ws = kind_ok kind end ws
+
+shape_ok : (end : ℕ) (ws : List Word) → IfOk (shape_word end ws) HasNumbers
+shape_ok end [] = tt
+shape_ok end (w ∷ ws) = named_ok (kind_of w.text) end w ws
+
+-- ---- degrees of freedom
+abbrev AreAllowed : Option Dof → Type 0
+AreAllowed o = IfSome o IsDegrees
+
+some_allowed : (dof : Dof) (t : Bool) → are_degrees dof ≡ t → AreAllowed (cond t (Some dof) None)
+some_allowed dof true e = e
+some_allowed dof false e = tt
+
+allowed_ok : (o : Option Dof) → AreAllowed (allowed o)
+allowed_ok None = tt
+allowed_ok (Some dof) = some_allowed dof (are_degrees dof) refl
+
+dof_ok : (text : List ℕ) → AreAllowed (dof_of text)
+dof_ok text = by (bytes_eq text (codes "inf")) (allowed_ok (option_map Whole (whole_of 7 text))) where
+  by : (t : Bool) → AreAllowed (allowed (option_map Whole (whole_of 7 text))) →
+      AreAllowed (cond t (Some Inf) (allowed (option_map Whole (whole_of 7 text))))
+  by true h = refl
+  by false h = h
+
+word_ok : (meaning : List ℕ → Option Dof) → ((text : List ℕ) → AreAllowed (meaning text)) → (end : ℕ) (ws : List Word) →
+    IfOk (any_word meaning end ws) (λ x. AreAllowed x.item)
+word_ok meaning h end [] = tt
+word_ok meaning h end (w ∷ ws) = h w.text
+
+degrees_ok : (end : ℕ) (ws : List Word) → IfOk (degrees_word end ws) (λ x. AreAllowed x.item)
+degrees_ok end [] = refl
+degrees_ok end (w ∷ ws) =
+    cond_ok (λ x. AreAllowed x.item) (bytes_eq w.text (codes "dof")) (any_word dof_of end ws) _ (λ e. word_ok dof_of dof_ok end ws)
+    (cond_ok (λ x. AreAllowed x.item) (bytes_eq w.text (codes "rel")) (any_word rel_of end ws) (Err (Syntax (w.place + 1)))
+    (λ e. word_ok rel_of (λ text. allowed_ok (option_map Rel (whole_of 2 text))) end ws) tt)
+
+stated_ok : (o : Option Dof) → AreAllowed o → IfOk (degrees_checked o) IsDegrees
+stated_ok None h = tt
+stated_ok (Some dof) h = h
+
+-- ---- rows
+given_ok : (end : ℕ) (ws : List Word) → IfOk (given_of end ws) IsRegular
+given_ok end ws =
+    then_ok (λ x. is_plain_name x.item ≡ true) IsRegular (plain_word end ws) _ (plain_ok end ws) (λ name plain.
+    then_ok (λ x. IsDecimal x.item) IsRegular (number_word end name.rest) _ (number_ok end name.rest) (λ estimate decimal.
+    then_ok HasNumbers IsRegular (shape_word end estimate.rest) _ (shape_ok end estimate.rest) (λ shape has.
+    then_ok (λ x. AreAllowed x.item) IsRegular (degrees_word end shape.rest) _ (degrees_ok end shape.rest) (λ dof allows.
+    then_ok (λ x. Unit {0}) IsRegular (ended dof.rest) _ (any_ok (ended dof.rest)) (λ done u.
+    then_ok (λ x. checked shape.item ≡ Ok (record {})) IsRegular (shape_checked (checked shape.item)) _ (checked_ok (checked shape.item)) (λ fine states.
+    then_ok IsDegrees IsRegular (degrees_checked dof.item) _ (stated_ok dof.item allows) (λ degrees are.
+    (plain, decimal, has, states, are))))))))
+
+-- the printed formula is read as the formula again
+abbrev IsReadAgain : Tree → Type 0
+IsReadAgain f = reading_of (print f) ≡ Ok f
+
+formula_ok : (at : ℕ) (r : Result Tree FormulaFault) → ((f : Tree) → r ≡ Ok f → IsReadAgain f) → IfOk (formula_in at r) IsReadAgain
+formula_ok at (Ok f) h = h f refl
+formula_ok at (Err fault) h = tt
+
+let_ok : (line : List ℕ) (at : ℕ) → IfOk (let_of line at) IsRegular
+let_ok line at =
+    let name : List ℕ = leading_name (drop (past_blanks line at) line) in
+    then_ok (λ x. is_plain_name x.item ≡ true) IsRegular (name_at line (past_blanks line at)) _
+    (cond_ok (λ x. is_plain_name x.item ≡ true) (is_plain_name name) (Ok (record { item = name; at = past_blanks line at + length name }))
+    (Err (Syntax (past_blanks line at + 1))) (λ plain. plain) tt) (λ x plain.
+    then_ok (λ start. Unit {0}) IsRegular (equals_at line (past_blanks line x.at)) _ (any_ok (equals_at line (past_blanks line x.at))) (λ start u.
+    then_ok IsReadAgain IsRegular (formula_at line start) _
+    (formula_ok start (reading_of (drop start line)) (λ f h. read_again (drop start line) f h)) (λ f has.
+    (plain, has))))
+
+pub row_regular : (line : List ℕ) (ws : List Word) → IfOk (row_at line ws) IsRegular
+row_regular line [] = tt
+row_regular line (w ∷ ws) =
+    cond_ok IsRegular (bytes_eq w.text (codes "given")) (given_of (length line) ws) _ (λ e. given_ok (length line) ws)
+    (cond_ok IsRegular (bytes_eq w.text (codes "let")) (let_of line (w.place + length w.text)) (if is_other_kind w.text then Err NotBuilt else Err (Syntax (w.place + 1)))
+    (λ e. let_ok line (w.place + length w.text)) (cond_ok IsRegular (is_other_kind w.text) (Err NotBuilt) (Err (Syntax (w.place + 1))) (λ e. tt) tt))
+
+pub read_regular : (line : List ℕ) (from : ℕ) → IfOk (row_read line from) IsRegular
+unfolding row_read
+read_regular line from = row_regular (written_part line) (words_from (written_part line) from)
+
+ok_is : (r : Read Row) (row : Row) → r ≡ Ok row → IfOk r IsRegular → IsRegular row
+ok_is r row e h = rw e at h
+
+pub what_is_read_is_regular : (line : List ℕ) (from : ℕ) (row : Row) → row_read line from ≡ Ok row → IsRegular row
+what_is_read_is_regular line from row h = ok_is (row_read line from) row h (read_regular line from)

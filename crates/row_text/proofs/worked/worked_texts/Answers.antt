@@ -1,0 +1,15 @@
+use Rattle.std.proofs.Common.{refl}
+use Rattle.std.specs.Fmt.{digits}
+use Rattle.row_text.proofs.worked.worked_texts.Goals as goal
+
+pub returns-clause-infinite : goal.returns-clause-infinite
+unfolding digits
+returns-clause-infinite c = refl
+
+pub returns-clause-whole : goal.returns-clause-whole
+unfolding digits
+returns-clause-whole c = refl
+
+pub returns-clause-relative : goal.returns-clause-relative
+unfolding digits
+returns-clause-relative c = refl

@@ -1,0 +1,5 @@
+-- The definitions, in the order in which to read them.
+pub mod Parts
+pub mod Givens
+pub mod Reading
+pub mod Printing

@@ -1,0 +1,108 @@
+ghost use Rattle.std.specs.Prelude.{◌≡◌, ◌++◌, decimal, IfOk, OnOk};
+ghost use Rattle.decimal18.specs.Text.{text_of};
+ghost use Rattle.sheet_rows.specs.Rows.{row_of};
+ghost use Rattle.sheet_rows.specs.Regular.{IsRegular};
+ghost use Rattle.row_text.specs.Printing.{shape_text, degrees_text, printed};
+
+use decimal18::Dec;
+use formula_ast::print_formula;
+use itoa::Buffer;
+use line_text::{Bytes, OutOfMemory};
+use sheet_rows::Row;
+use std::alloc::Global;
+use type_b::{Dof, Shape};
+
+/// Puts the words and the number after them at the end.
+fn put_number(alloc: Global, out: &mut Bytes, words: &[u8], number: &Dec) -> Result<(), OutOfMemory>
+    ensures { OnOk result (out.new ≡ out.old ++ words.now ++ text_of number.now) }
+{
+    out.extend_from_slice(words)?;
+    out.extend_from_slice(number.print(alloc)?.as_slice())
+}
+
+/// Puts the words and the whole number after them at the end.
+fn put_whole(out: &mut Bytes, words: &[u8], number: u64) -> Result<(), OutOfMemory>
+    ensures { OnOk result (out.new ≡ out.old ++ words.now ++ decimal number) }
+{
+    out.extend_from_slice(words)?;
+    out.extend_from_slice(Buffer::new().format(number).as_bytes())
+}
+
+/// Puts the text of the shape at the end.
+fn put_shape(alloc: Global, out: &mut Bytes, shape: &Shape) -> Result<(), OutOfMemory>
+    ensures { OnOk result (out.new ≡ out.old ++ shape_text shape.now) }
+{
+    match shape {
+        Shape::Exact => out.extend_from_slice(b"exact"),
+        Shape::Std { u } => put_number(alloc, out, b"std ", u),
+        Shape::Exp { expanded, k } => {
+            put_number(alloc, out, b"exp ", expanded)?;
+            put_number(alloc, out, b" ", k)
+        }
+        Shape::Norm { half, level } => {
+            put_number(alloc, out, b"norm ", half)?;
+            put_whole(out, b" ", *level as u64)
+        }
+        Shape::Rect { half } => put_number(alloc, out, b"rect ", half),
+        Shape::Tri { half } => put_number(alloc, out, b"tri ", half),
+        Shape::Trap { half, beta } => {
+            put_number(alloc, out, b"trap ", half)?;
+            put_number(alloc, out, b" ", beta)
+        }
+        Shape::Arcsine { half } => put_number(alloc, out, b"arcsine ", half),
+    }
+}
+
+/// Puts the text of the degrees of freedom at the end, where they are not infinitely many.
+fn put_degrees(out: &mut Bytes, dof: &Dof) -> Result<(), OutOfMemory>
+    ensures { OnOk result (out.new ≡ out.old ++ degrees_text dof.now) }
+{
+    match dof {
+        Dof::Inf => Ok(()),
+        Dof::Whole(number) => put_whole(out, b" dof ", *number as u64),
+        Dof::Rel(percent) => put_whole(out, b" rel ", *percent as u64),
+    }
+}
+
+/// Puts the text of the row at the end.
+fn put_row(alloc: Global, out: &mut Bytes, row: &Row) -> Result<(), OutOfMemory>
+    ensures { OnOk result (out.new ≡ out.old ++ printed (row_of row.now)) }
+{
+    match row {
+        Row::Given {
+            name,
+            estimate,
+            shape,
+            dof,
+        } => {
+            out.extend_from_slice(b"given ")?;
+            out.extend_from_slice(name.as_bytes())?;
+            out.push(b' ')?;
+            out.extend_from_slice(estimate.print(alloc)?.as_slice())?;
+            out.push(b' ')?;
+            put_shape(alloc, out, shape)?;
+            put_degrees(out, dof)
+        }
+        Row::Formula { name, formula } => {
+            out.extend_from_slice(b"let ")?;
+            out.extend_from_slice(name.as_bytes())?;
+            out.extend_from_slice(b" = ")?;
+            out.extend_from_slice(print_formula(alloc, formula)?.as_slice())
+        }
+    }
+}
+
+/// The text of the row: `given NAME ESTIMATE SHAPE`, with ` dof N` or ` rel PERCENT` where the degrees of freedom are
+/// not infinitely many, or `let NAME = FORMULA`.
+///
+/// # Errors
+///
+/// [`OutOfMemory`] where there is no memory for the text.
+pub fn print_row(alloc: Global, row: &Row) -> Result<Bytes, OutOfMemory>
+    requires { IsRegular (row_of row.now) }
+    ensures { IfOk result (λ text. text ≡ printed (row_of row.now)) }
+{
+    let mut text = Bytes::new(alloc)?;
+    put_row(alloc, &mut text, row)?;
+    Ok(text)
+}

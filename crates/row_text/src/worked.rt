@@ -1,0 +1,54 @@
+//! Worked inputs. Each function has an empty body, and its clauses are theorems on the definitions.
+
+ghost use Rattle.std.specs.Prelude.{◌≡◌, pos, Ok, Err, codes};
+ghost use Rattle.decimal18.specs.Bound.{scaled};
+ghost use Rattle.type_b.specs.declared.shape.Shape.TheVariants.{Exact, Std, Exp, Norm, Rect, Tri, Trap, Arcsine};
+ghost use Rattle.type_b.specs.declared.shape.Dof.TheVariants.{Inf, Whole, Rel};
+ghost use Rattle.sheet_rows.specs.Rows.{Given};
+ghost use Rattle.row_text.specs.Reading.{row_read};
+ghost use Rattle.row_text.specs.Printing.{printed};
+ghost use Rattle.sheet_rows.specs.declared.fault.RowFault.TheVariants.{Syntax, Negative, ZeroK, Beta, Level, DofRange};
+
+/// The word of each shape, with its parameters in their order.
+pub fn worked_shapes()
+    ensures exact { row_read (codes "given X 5 exact") 0 ≡ Ok (Given (codes "X") (scaled (pos 5) 0) Exact Inf) }
+    ensures std { row_read (codes "given X 5 std 1") 0 ≡ Ok (Given (codes "X") (scaled (pos 5) 0) (Std (scaled (pos 1) 0)) Inf) }
+    ensures exp { row_read (codes "given X 5 exp 1 2") 0 ≡ Ok (Given (codes "X") (scaled (pos 5) 0) (Exp (scaled (pos 1) 0) (scaled (pos 2) 0)) Inf) }
+    ensures norm_90 { row_read (codes "given X 5 norm 1 90") 0 ≡ Ok (Given (codes "X") (scaled (pos 5) 0) (Norm (scaled (pos 1) 0) 90) Inf) }
+    ensures norm_95 { row_read (codes "given X 5 norm 1 95") 0 ≡ Ok (Given (codes "X") (scaled (pos 5) 0) (Norm (scaled (pos 1) 0) 95) Inf) }
+    ensures norm_99 { row_read (codes "given X 5 norm 1 99") 0 ≡ Ok (Given (codes "X") (scaled (pos 5) 0) (Norm (scaled (pos 1) 0) 99) Inf) }
+    ensures rect { row_read (codes "given X 5 rect 1") 0 ≡ Ok (Given (codes "X") (scaled (pos 5) 0) (Rect (scaled (pos 1) 0)) Inf) }
+    ensures tri { row_read (codes "given X 5 tri 1") 0 ≡ Ok (Given (codes "X") (scaled (pos 5) 0) (Tri (scaled (pos 1) 0)) Inf) }
+    ensures trap { row_read (codes "given X 5 trap 1 0.5") 0 ≡ Ok (Given (codes "X") (scaled (pos 5) 0) (Trap (scaled (pos 1) 0) (scaled (pos 5) 1)) Inf) }
+    ensures arcsine { row_read (codes "given X 5 arcsine 1") 0 ≡ Ok (Given (codes "X") (scaled (pos 5) 0) (Arcsine (scaled (pos 1) 0)) Inf) }
+{}
+
+/// What is stated of degrees of freedom.
+pub fn worked_degrees()
+    ensures infinite { row_read (codes "given X 5 exact dof inf") 0 ≡ Ok (Given (codes "X") (scaled (pos 5) 0) Exact Inf) }
+    ensures dof { row_read (codes "given X 5 exact dof 01") 0 ≡ Ok (Given (codes "X") (scaled (pos 5) 0) Exact (Whole 1)) }
+    ensures most { row_read (codes "given X 5 exact dof 1000000") 0 ≡ Ok (Given (codes "X") (scaled (pos 5) 0) Exact (Whole 1000000)) }
+    ensures rel { row_read (codes "given X 5 exact rel 70") 0 ≡ Ok (Given (codes "X") (scaled (pos 5) 0) Exact (Rel 70)) }
+{}
+
+/// Inputs that are refused. Where several rules are broken, one is told.
+pub fn worked_refusals()
+    ensures word_first { row_read (codes "given X 5 std -1 2") 0 ≡ Err (Syntax 18) }
+    ensures level_first { row_read (codes "given X 5 norm 2 dof 5") 0 ≡ Err (Syntax 22) }
+    ensures negative_first { row_read (codes "given X 5 exp -1 0") 0 ≡ Err Negative }
+    ensures zero_k { row_read (codes "given X 5 exp 1 0 dof 0") 0 ≡ Err ZeroK }
+    ensures beta { row_read (codes "given X 5 trap 1 1.1") 0 ≡ Err Beta }
+    ensures level { row_read (codes "given X 5 norm 2 095") 0 ≡ Err Level }
+    ensures nothing { row_read (codes "given X 5 exact dof 0") 0 ≡ Err DofRange }
+    ensures above { row_read (codes "given X 5 exact dof 1000001") 0 ≡ Err DofRange }
+    ensures long { row_read (codes "given X 5 exact dof 00000001") 0 ≡ Err DofRange }
+    ensures percent { row_read (codes "given X 5 exact rel 71") 0 ≡ Err DofRange }
+    ensures long_percent { row_read (codes "given X 5 exact rel 001") 0 ≡ Err DofRange }
+{}
+
+/// Inputs as they are printed.
+pub fn worked_texts()
+    ensures infinite { printed (Given (codes "X") (scaled (pos 5) 0) (Exp (scaled (pos 5) 2) (scaled (pos 2) 0)) Inf) ≡ codes "given X 5 exp 0.05 2" }
+    ensures whole { printed (Given (codes "X") (scaled (pos 5) 0) (Norm (scaled (pos 1) 0) 95) (Whole 12)) ≡ codes "given X 5 norm 1 95 dof 12" }
+    ensures relative { printed (Given (codes "X") (scaled (pos 5) 0) (Trap (scaled (pos 1) 0) (scaled (pos 5) 1)) (Rel 5)) ≡ codes "given X 5 trap 1 0.5 rel 5" }
+{}

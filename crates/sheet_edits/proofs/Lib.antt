@@ -1,0 +1,9 @@
+pub mod Mentions
+pub mod Entries
+pub mod Positions
+pub mod Verdicts
+pub mod Conditions
+pub mod Adding
+pub mod Setting
+pub mod Removing
+pub mod Keeping

@@ -1,0 +1,5 @@
+-- The definitions, in the order in which to read them.
+pub mod Sheets
+pub mod Standing
+pub mod Places
+pub mod States

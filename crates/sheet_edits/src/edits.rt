@@ -1,0 +1,207 @@
+ghost use Rattle.std.specs.Prelude.{◌≡◌, ℕ, List, false, find, not, Some, None, Ok, Err, OnErr, OnOk, IfOk, IfErr, slice_get};
+ghost use Rattle.sheet_rows.specs.Rows.{Sheet as Rows, row_of, name_of, names_used};
+ghost use Rattle.sheet_rows.specs.Regular.{IsRegular};
+ghost use Rattle.sheet_edits.specs.Standing.{IsStanding};
+ghost use Rattle.sheet_edits.specs.Sheets.{is_named, has_row, added, set_row, removed, unless, verdict_add, verdict_set, verdict_remove};
+ghost use Rattle.sheet_edits.specs.Places.{place_of, is_known_with, stands_before, verdict_of, IsVerdict};
+ghost use Rattle.sheet_rows.specs.declared.edit_fault.EditFault.{EditFault};
+ghost use Rattle.sheet_rows.specs.declared.edit_fault.EditFault.TheVariants.{Unknown, NotEarlier};
+
+use crate::sheet::Sheet;
+use crate::users::first_user;
+use formula_ast::Name;
+use sheet_rows::{EditFault, Row};
+use std::rc::Rc;
+
+/// The most rows of a sheet.
+const ROW_LIMIT: usize = 4096;
+
+impl Sheet {
+    // Whether the name is that of a row, or `own`.
+    fn is_known_with(&self, own: &Name, name: &Name) -> bool
+        ensures { result ≡ is_known_with self.now own.now name.now }
+    {
+        self.place_of(name).is_some() || name == own
+    }
+
+    // Whether the name is that of a row before the place.
+    fn stands_before(&self, at: usize, name: &Name) -> bool
+        ensures { result ≡ stands_before self.now at name.now }
+    {
+        match self.place_of(name) {
+            Some(place) => place < at,
+            None => false,
+        }
+    }
+
+    fn first_unknown(&self, own: &Name, names: &[Name]) -> Option<Name>
+        ensures { result ≡ find (λ n. not (is_known_with self.now own.now n)) names.now }
+    {
+        for name in names {
+            if !self.is_known_with(own, name) {
+                return Some(*name);
+            }
+        }
+        None
+    }
+
+    fn first_not_earlier(&self, at: usize, names: &[Name]) -> Option<Name>
+        ensures { result ≡ find (λ n. not (stands_before self.now at n)) names.now }
+    {
+        for name in names {
+            if !self.stands_before(at, name) {
+                return Some(*name);
+            }
+        }
+        None
+    }
+
+    // Whether each name that the row uses is that of a row, and of one before the place.
+    fn check_uses(&self, row: &Row, at: usize) -> Result<(), EditFault>
+        ensures { (edited : Rows) → IsVerdict result edited
+            (unless (find (λ n. not (is_known_with self.now (name_of (row_of row.now)) n)) (names_used (row_of row.now))) Unknown
+            (unless (find (λ n. not (stands_before self.now at n)) (names_used (row_of row.now))) NotEarlier (Ok edited))) }
+    {
+        let names = row.used_names(self.allocator())?;
+        if let Some(name) = self.first_unknown(row.name(), names.as_slice()) {
+            return Err(EditFault::Unknown(name));
+        }
+        if let Some(name) = self.first_not_earlier(at, names.as_slice()) {
+            return Err(EditFault::NotEarlier(name));
+        }
+        Ok(())
+    }
+
+    // The verdict on adding the row.
+    fn check_added(&self, row: &Row) -> Result<(), EditFault>
+        requires { IsRegular (row_of row.now) }
+        ensures verdict { IsVerdict result (added self.now (row_of row.now)) (verdict_add self.now (row_of row.now)) }
+        ensures full { verdict_add self.now (row_of row.now) ≡ Err EditFault.RowsFull → result ≡ Err EditFault.RowsFull }
+        ensures duplicate { (n : List ℕ) → verdict_add self.now (row_of row.now) ≡ Err (EditFault.Duplicate n) → result ≡ Err (EditFault.Duplicate n) }
+        ensures new { OnOk result (place_of self.now (name_of (row_of row.now)) ≡ None) }
+        ensures standing { OnOk result (IsStanding (added self.now (row_of row.now))) }
+    {
+        if self.rows().len() >= ROW_LIMIT {
+            return Err(EditFault::RowsFull);
+        }
+        if self.place_of(row.name()).is_some() {
+            return Err(EditFault::Duplicate(*row.name()));
+        }
+        self.check_uses(row, self.len())
+    }
+
+    // The verdict on setting the row, whose place is `at`.
+    fn check_set(&self, row: &Row, at: usize) -> Result<(), EditFault>
+        requires regular { IsRegular (row_of row.now) }
+        requires there { place_of self.now (name_of (row_of row.now)) ≡ Some at }
+        ensures verdict { IsVerdict result (set_row (row_of row.now) self.now) (verdict_set self.now (row_of row.now)) }
+        ensures standing { OnOk result (IsStanding (set_row (row_of row.now) self.now)) }
+    {
+        // Its contract says that the sheet is well formed: no other row is left without a name that it uses.
+        let _rows = self.rows();
+        self.check_uses(row, at)
+    }
+
+    // The verdict on removing the row of this name, whose place is `at`.
+    fn check_removed(&self, name: &Name, at: usize) -> Result<(), EditFault>
+        requires { place_of self.now name.now ≡ Some at }
+        ensures verdict { verdict_of result (removed name.now self.now) ≡ verdict_remove self.now name.now }
+        ensures standing { OnOk result (IsStanding (removed name.now self.now)) }
+    {
+        match first_user(self.rows(), name) {
+            Some(user) => Err(EditFault::InUse(user)),
+            None => Ok(()),
+        }
+    }
+
+    /// Adds a row, which is put last. It takes the time of finding the row's own names.
+    ///
+    /// # Errors
+    ///
+    /// The first refusal that applies, from [`EditFault::RowsFull`] to [`EditFault::NotEarlier`], or
+    /// [`EditFault::OutOfMemory`], which hides neither of the first two. The sheet is then as before, and the
+    /// row is dropped.
+    pub fn try_add(&mut self, row: Row) -> Result<(), EditFault>
+        requires { IsRegular (row_of row) }
+        ensures verdict { IsVerdict result self.new (verdict_add self.old (row_of row)) }
+        ensures full { verdict_add self.old (row_of row) ≡ Err EditFault.RowsFull → result ≡ Err EditFault.RowsFull }
+        ensures duplicate { (n : List ℕ) → verdict_add self.old (row_of row) ≡ Err (EditFault.Duplicate n) → result ≡ Err (EditFault.Duplicate n) }
+        ensures unchanged { OnErr result (self.new ≡ self.old) }
+    {
+        if let Err(fault) = self.check_added(&row) {
+            discard(row);
+            return Err(fault);
+        }
+        let name = *row.name();
+        match Rc::new(self.allocator(), row) {
+            Ok(row) => self.push_checked(name, row),
+            Err(_) => Err(EditFault::OutOfMemory),
+        }
+    }
+
+    // As `push`, with the fault of an edit.
+    fn push_checked(&mut self, name: Name, row: Rc<Row>) -> Result<(), EditFault>
+        requires named { name ≡ name_of (row_of row.value) }
+        requires new { place_of self.old name ≡ None }
+        requires standing { IsStanding (added self.old (row_of row.value)) }
+        ensures ok { OnOk result (self.new ≡ added self.old (row_of row.value)) }
+        ensures err { IfErr result (λ fault. fault ≡ EditFault.OutOfMemory) }
+        ensures unchanged { OnErr result (self.new ≡ self.old) }
+    {
+        match self.push(name, row) {
+            Ok(()) => Ok(()),
+            Err(_) => Err(EditFault::OutOfMemory),
+        }
+    }
+
+    /// Puts a row in the place of that of its name, and hands the old row out.
+    ///
+    /// # Errors
+    ///
+    /// The first refusal that applies, [`EditFault::Unknown`] or [`EditFault::NotEarlier`], or
+    /// [`EditFault::OutOfMemory`], which does not hide that no row has the row's name. The sheet is then as
+    /// before, and the row is dropped.
+    pub fn try_set(&mut self, row: Row) -> Result<Rc<Row>, EditFault>
+        requires { IsRegular (row_of row) }
+        ensures verdict { IsVerdict result self.new (verdict_set self.old (row_of row)) }
+        ensures unknown { has_row self.old (name_of (row_of row)) ≡ false → result ≡ Err (EditFault.Unknown (name_of (row_of row))) }
+        ensures old { IfOk result (λ old. find (is_named (name_of (row_of row))) self.old.rows ≡ Some (row_of old.value)) }
+        ensures unchanged { OnErr result (self.new ≡ self.old) }
+    {
+        let name = *row.name();
+        let Some(at) = self.place_of(&name) else {
+            discard(row);
+            return Err(EditFault::Unknown(name));
+        };
+        if let Err(fault) = self.check_set(&row, at) {
+            discard(row);
+            return Err(fault);
+        }
+        match Rc::new(self.allocator(), row) {
+            Ok(row) => Ok(self.exchange(at, row)),
+            Err(_) => Err(EditFault::OutOfMemory),
+        }
+    }
+
+    /// Takes the row of this name out, and hands out its place, counted from 0, and the row. It looks
+    /// at each row once.
+    ///
+    /// # Errors
+    ///
+    /// The first refusal that applies, [`EditFault::Unknown`] or [`EditFault::InUse`]. The sheet is then as
+    /// before.
+    pub fn try_remove(&mut self, name: &Name) -> Result<(usize, Rc<Row>), EditFault>
+        ensures verdict { verdict_of result self.new ≡ verdict_remove self.old name.now }
+        ensures place { IfOk result (λ r. place_of self.old name.now ≡ Some r.0) }
+        ensures row { IfOk result (λ r. slice_get self.old.rows r.0 ≡ Some (row_of r.1.value)) }
+        ensures unchanged { OnErr result (self.new ≡ self.old) }
+    {
+        let Some(at) = self.place_of(name) else {
+            return Err(EditFault::Unknown(*name));
+        };
+        self.check_removed(name, at)?;
+        Ok((at, self.withdraw(at)))
+    }
+}
+
+fn discard(_row: Row) {}
