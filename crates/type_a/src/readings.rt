@@ -1,8 +1,8 @@
-ghost use Rattle.std.specs.Prelude.{◌≡◌, ◌+◌, ◌<◌, IfOk, Some, length};
+ghost use Rattle.std.specs.Prelude.{◌≡◌, ◌+◌, ◌<◌, IfOk, None, Some, length};
 ghost use Rattle.line_text.specs.Memory.{Gives};
 ghost use Rattle.fixed_interval.specs.Interval.{Encloses};
 ghost use Rattle.type_a.specs.declared.readings.ReadingsFault.TheVariants.{OutOfMemory};
-ghost use Rattle.type_a.specs.Tables.{table_of, readings_of, reading_at, width_of};
+ghost use Rattle.type_a.specs.Tables.{table_of, readings_of, reading_at, refusal, width_of};
 ghost use Rattle.type_a.specs.Statistics.{exact_mean, exact_joint, mean_span, joint_span};
 
 use crate::checks::{finest, first_misshapen, first_wide, width};
@@ -118,11 +118,13 @@ impl Readings {
         reading_at(self.records.as_slice(), row, column)
     }
 
-    /// The span of the mean of a column (JCGM 100:2008, 4.2.1), its ends rounded outwards. It ticks once.
+    /// The span of the mean of a column (JCGM 100:2008, 4.2.1), its ends rounded outwards. It ticks once. The
+    /// readings are a table that is taken, so each of their columns has this span.
     pub fn mean<L: Ledger>(&self, column: usize, steps: &mut Steps<L>) -> Span
         requires { column < width_of self.now }
         ensures span { Some result ≡ mean_span self.now column }
         ensures encloses { Encloses result (exact_mean self.now column) }
+        ensures taken { refusal self.now ≡ None }
         ensures ticks { steps.new ≡ steps.old + 1 }
     {
         let mean = sums::mean(self.records.as_slice(), self.places, column);

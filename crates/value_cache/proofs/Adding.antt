@@ -1,14 +1,17 @@
 -- What is kept of the evaluations, with one quantity more.
 use Rattle.std.specs.Prelude.{◌≡◌, ℕ, Bool, true, false, not, if◌then◌else◌, List, [], ◌∷◌, ◌++◌, find, is_some, bytes_eq, Some, None, Result, Ok, Err, OnOk, refl}
+use Rattle.std.specs.Option.{option_map}
 use Rattle.std.proofs.Common.{sym, ◌∙◌, ap}
 use Rattle.std.proofs.lemmas.List.{map-id}
 use Rattle.std.proofs.lemmas.Slice.Eq.{bytes_eq-Decides}
 use mathlib.Core.Path.{fun_ext}
 use Rattle.exact_law.specs.Model.{IsSameTest}
 use Rattle.decimal18.specs.Bound.{Bound}
-use Rattle.fixed_interval.specs.Interval.{point_span}
+use Rattle.fixed_interval.specs.Interval.{Interval, point_span}
 use Rattle.formula_ast.specs.Trees.{Tree, uses, names_of}
-use Rattle.value_cache.specs.Quantities.{Input, Quantity, by_names, is_there, first_unknown}
+use Rattle.type_a.specs.Tables.{Table}
+use Rattle.type_a.specs.Statistics.{mean_span}
+use Rattle.value_cache.specs.Quantities.{Input, Column, Quantity, IsColumn, by_names, is_there, first_unknown}
 use Rattle.value_cache.specs.Evaluations.{Found, evaluation_of_body, evaluation_of_formula, evaluation_of}
 use Rattle.value_cache.specs.Evaluable.{UsesOnly, Keeps, with_quantity}
 use Rattle.value_cache.specs.Cells.{Cells, kept}
@@ -58,14 +61,23 @@ unknown_same qs cells keeps f =
 
 -- a formula by names uses what its names name
 pub uses_names : (qs : List (Quantity (List ℕ))) (f : Tree) → first_unknown bytes_eq qs (uses f) ≡ None → UsesOnly bytes_eq qs (by_names f)
-uses_names qs f e = ap (first_unknown bytes_eq qs) (map-id (uses f)) ∙ e
+uses_names qs f e = record { known = ap (first_unknown bytes_eq qs) (map-id (uses f)) ∙ e; column = tt }
 
 pub keeps-input : (qs : List (Quantity (List ℕ))) (cells cells' : Cells) (name : List ℕ) (estimate : Bound) (e : Evaluation (List ℕ))
     → Keeps bytes_eq qs (kept cells) → is_there bytes_eq qs name ≡ false → e ≡ Enclosed (point_span estimate)
     → ((n : List ℕ) → kept cells' n ≡ (if bytes_eq name n then Some e else kept cells n))
     → Keeps bytes_eq (with_quantity qs name (Input estimate)) (kept cells')
 keeps-input qs cells cells' name estimate e keeps fresh is added =
-    keeps-added bytes_eq same_names qs (kept cells) (kept cells') (record { key = name; body = Input estimate }) e keeps fresh refl (ap Some (sym is)) added
+    keeps-added bytes_eq same_names qs (kept cells) (kept cells') (record { key = name; body = Input estimate }) e keeps fresh
+    (record { known = refl; column = tt }) (ap Some (sym is)) added
+
+pub keeps-column : (qs : List (Quantity (List ℕ))) (cells cells' : Cells) (name : List ℕ) (t : Table) (column : ℕ) (s : Interval)
+    → Keeps bytes_eq qs (kept cells) → is_there bytes_eq qs name ≡ false → IsColumn t column → Some s ≡ mean_span t column
+    → ((n : List ℕ) → kept cells' n ≡ (if bytes_eq name n then Some (Enclosed s) else kept cells n))
+    → Keeps bytes_eq (with_quantity qs name (Column t column)) (kept cells')
+keeps-column qs cells cells' name t column s keeps fresh there span added =
+    keeps-added bytes_eq same_names qs (kept cells) (kept cells') (record { key = name; body = Column t column }) (Enclosed s) keeps fresh
+    (record { known = refl; column = there }) (ap (option_map Enclosed) (sym span)) added
 
 pub keeps-formula : (qs : List (Quantity (List ℕ))) (cells cells' : Cells) (name : List ℕ) (f : Tree) (ns : List (List ℕ)) (e : Evaluation (List ℕ))
     → Keeps bytes_eq qs (kept cells) → is_there bytes_eq qs name ≡ false → ns ≡ names_of f

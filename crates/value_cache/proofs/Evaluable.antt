@@ -1,14 +1,19 @@
 -- Quantities that were added one by one, and what one more does to the evaluations.
-use Rattle.std.specs.Prelude.{◌≡◌, ℕ, zero, suc, ◌≤◌, Bool, true, false, if◌then◌else◌, List, [], ◌∷◌, ◌++◌, length, is_some, Option, Some, None, refl}
-use Rattle.std.specs.Option.{option_or}
+use Rattle.std.specs.Prelude.{◌≡◌, ℕ, zero, suc, ◌≤◌, Bool, true, false, if◌then◌else◌, List, [], ◌∷◌, ◌++◌, length, is_some, IsSome, Option, Some, None, refl}
+use Rattle.std.specs.Option.{option_or, option_map}
 use Rattle.std.proofs.Common.{sym, ◌∙◌, ap, subst, arith}
 use Rattle.std.proofs.lemmas.Bool.{true≢false}
 use Rattle.std.proofs.lemmas.Option.{none-some, same_Some}
 use mathlib.Core.Path.{fun_ext}
 use Rattle.exact_law.specs.Model.{IsSameTest}
-use Rattle.value_cache.specs.Quantities.{Body, Input, Function, Quantity, body_of, is_there}
+use Rattle.value_cache.specs.Quantities.{Body, Input, Function, Column, Quantity, IsColumn, body_of, is_there}
+use Rattle.fixed_interval.proofs.Enclosures.{outward_there}
+use Rattle.type_a.specs.Tables.{Table}
+use Rattle.type_a.specs.Statistics.{exact_mean, mean_span}
+use Rattle.type_a.proofs.InRange.{mean_in_range}
 use Rattle.value_cache.specs.Evaluations.{Found, evaluation_of_body, evaluation_through, evaluation_of}
 use Rattle.value_cache.specs.Evaluable.{UsesOnly, IsEvaluable}
+use Rattle.value_cache.specs.declared.evaluation.Evaluation.TheVariants.{Enclosed}
 use Rattle.value_cache.proofs.Names.{AllNames-map, keys_known, none_key_unknown}
 use Rattle.value_cache.proofs.Faults.{evaluation_same, is_evaluated}
 
@@ -70,21 +75,26 @@ is_there-kept same qs q n h = is_there-added same qs q n ∙ ap (λ t. if t then
 
 UsesOnly-kept : {K : Type 0} (same : K → K → Bool) (qs : List (Quantity K)) (q : Quantity K) (body : Body K)
     → UsesOnly same qs body → UsesOnly same (qs ++ q ∷ []) body
-UsesOnly-kept same qs q (Input estimate) h = refl
-UsesOnly-kept same qs q (Function f key) h =
-    none_key_unknown (is_there same (qs ++ q ∷ [])) key f
-    (AllNames-map (λ n. is_there same qs (key n) ≡ true) (λ n. is_there same (qs ++ q ∷ []) (key n) ≡ true)
-    (λ n. is_there-kept same qs q (key n)) f (keys_known (is_there same qs) key f h))
+UsesOnly-kept same qs q (Input estimate) h = record { known = refl; column = tt }
+UsesOnly-kept same qs q (Column t column) h = record { known = refl; column = h.column }
+UsesOnly-kept same qs q (Function f key) h = record {
+  known =
+      none_key_unknown (is_there same (qs ++ q ∷ [])) key f
+      (AllNames-map (λ n. is_there same qs (key n) ≡ true) (λ n. is_there same (qs ++ q ∷ []) (key n) ≡ true)
+      (λ n. is_there-kept same qs q (key n)) f (keys_known (is_there same qs) key f h.known));
+  column = tt;
+}
 
 -- ---- the evaluations with one quantity more
 body_same : {K : Type 0} (same : K → K → Bool) (qs : List (Quantity K)) (found others : Found K)
     → ((n : K) → is_there same qs n ≡ true → found n ≡ others n) → (row : K) (body : Body K) → UsesOnly same qs body
     → evaluation_of_body found row (Some body) ≡ evaluation_of_body others row (Some body)
 body_same same qs found others agree row (Input estimate) uses = refl
+body_same same qs found others agree row (Column t column) uses = refl
 body_same same qs found others agree row (Function f key) uses =
     evaluation_same (λ n. found (key n)) (λ n. others (key n)) row f
     (AllNames-map (λ n. is_there same qs (key n) ≡ true) (λ n. found (key n) ≡ others (key n)) (λ n. agree (key n)) f
-    (keys_known (is_there same qs) key f uses))
+    (keys_known (is_there same qs) key f uses.known))
 
 -- a key other than the new one keeps its evaluation
 through_same : {K : Type 0} (same : K → K → Bool) → IsSameTest same → (qs : List (Quantity K)) (q : Quantity K) → IsEvaluable same qs
@@ -130,13 +140,25 @@ evaluation_of-added same law qs q evaluable fresh uses n =
     ∙ added_through same law qs q evaluable fresh uses (length qs) (omega arith) n
 
 -- ---- what has a span or a fault
+-- the mean of a column of a table that is taken has a span
+mean_there : (t : Table) (column : ℕ) → IsColumn t column → IsSome (mean_span t column)
+mean_there t column h =
+    let range = mean_in_range t h.taken column h.there in
+    outward_there (exact_mean t column) (exact_mean t column) range range
+
+is_some-map : {A B : Type 0} (f : A → B) (o : Option A) → is_some (option_map f o) ≡ is_some o
+is_some-map f None = refl
+is_some-map f (Some x) = refl
+
 known_body : {K : Type 0} (same : K → K → Bool) (qs : List (Quantity K)) → IsEvaluable same qs → (row : K) (body : Body K) → UsesOnly same qs body
     → is_some (evaluation_of_body (evaluation_of same qs) row (Some body)) ≡ true
 known_body same qs evaluable row (Input estimate) uses = refl
+known_body same qs evaluable row (Column t column) uses =
+    is_some-map Enclosed (mean_span t column) ∙ mean_there t column uses.column
 known_body same qs evaluable row (Function f key) uses =
     is_evaluated (λ n. evaluation_of same qs (key n)) row f
     (AllNames-map (λ n. is_there same qs (key n) ≡ true) (λ n. is_some (evaluation_of same qs (key n)) ≡ true)
-    (λ n e. evaluable.found (key n) ∙ e) f (keys_known (is_there same qs) key f uses))
+    (λ n e. evaluable.found (key n) ∙ e) f (keys_known (is_there same qs) key f uses.known))
 
 -- ---- what stands
 pub evaluable_empty : {K : Type 0} (same : K → K → Bool) → IsEvaluable same []

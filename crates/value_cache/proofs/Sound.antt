@@ -1,22 +1,25 @@
 -- The span of a quantity encloses the value of its expanded formula.
 use Rattle.std.specs.Prelude.{◌≡◌, ℕ, zero, suc, Bool, true, false, if◌then◌else◌, List, [], ◌∷◌, length, is_some, Option, Some, None, Ok, Err, refl}
-use Rattle.std.specs.Option.{option_or}
+use Rattle.std.specs.Option.{option_or, option_map}
 use Rattle.std.proofs.Common.{sym, ◌∙◌, ap, subst}
 use Rattle.std.proofs.lemmas.Bool.{true≢false}
 use Rattle.std.proofs.lemmas.Option.{same_Some}
 use Rattle.exact_fraction.specs.Number.{ℚ}
+use Rattle.exact_fraction.specs.NumberLaws.{≤ℚ_refl}
 use Rattle.exact_law.specs.Model.{Expression, Key, Body as ModelBody, Input as ModelInput, value, is_defined, replaced, replaced_body, expansion, expanded, estimate, estimate_in, is_input_body, is_input, exact_value, has_value, body_of as model_body_of}
 use Rattle.exact_law.proofs.Chain.{value-replaced, is_defined-replaced}
 use Rattle.exact_law.proofs.NoValues.{no_quantity}
-use Rattle.decimal18.specs.Bound.{Bound, value_of}
+use Rattle.decimal18.specs.Bound.{value_of}
 use Rattle.fixed_interval.specs.Interval.{Interval, Encloses, point_span}
 use Rattle.formula_ast.specs.Trees.{Tree, HasExponents, uses}
 use Rattle.formula_box.specs.Values.{Answer, span_of}
 use Rattle.formula_box.specs.declared.fault.EvalFault.TheVariants.{Arith, NoValue}
 use Rattle.formula_box.specs.Exact.{expression_of, AreEnclosed}
-use Rattle.fixed_interval.proofs.Enclosures.{point_encloses}
+use Rattle.fixed_interval.proofs.Enclosures.{point_encloses, outward_encloses}
 use Rattle.formula_box.proofs.Enclosing.{formula_encloses}
-use Rattle.value_cache.specs.Quantities.{Body, Input, Function, Quantity, body_of, is_there}
+use Rattle.type_a.specs.Tables.{Table}
+use Rattle.type_a.specs.Statistics.{exact_mean, mean_span}
+use Rattle.value_cache.specs.Quantities.{Body, Input, Function, Column, Quantity, body_of, is_there}
 use Rattle.value_cache.specs.Evaluations.{Found, Named, span_in, is_fault, first_fault, settled, evaluation_of_formula, evaluation_of_body, evaluation_through, evaluation_of}
 use Rattle.value_cache.specs.Model.{model_body, model_of, HasValueIn, BodyHasExponents, AllHaveExponents}
 use Rattle.value_cache.specs.declared.evaluation.Evaluation.{Evaluation}
@@ -110,11 +113,20 @@ formula_holds same qs found e all row f key h = by (span_of (λ n. span_in (foun
   by (Err (Arith fault)) g = tt
   by (Err (NoValue k)) g = fault_holds same qs _ _ (uses f)
 
-input_holds : {K : Type 0} (same : K → K → Bool) (qs : List (Quantity K)) (n : K) (b : Bound) → body_of same qs n ≡ Some (Input b) → IsValued same qs (Key n) (point_span b)
+-- a key that is an input of the model, by a value that the span encloses
+input_holds : {K : Type 0} (same : K → K → Bool) (qs : List (Quantity K)) (n : K) (q : ℚ) (s : Interval)
+    → model_body_of same (model_of qs) n ≡ Some (ModelInput q) → Encloses s q → IsValued same qs (Key n) s
 unfolding value is_defined estimate estimate_in is_input is_input_body
-input_holds same qs n b e =
-    let is : model_body_of same (model_of qs) n ≡ Some (ModelInput (value_of b)) = model-body_of same qs n ∙ ap model_bodies e in
-    record { defined = rw is refl; enclosed = rw is (point_encloses b) }
+input_holds same qs n q s is encloses = record { defined = rw is refl; enclosed = rw is encloses }
+
+-- the span of a mean, where it is there
+mean_holds : {K : Type 0} (same : K → K → Bool) (qs : List (Quantity K)) (n : K) (t : Table) (column : ℕ)
+    → model_body_of same (model_of qs) n ≡ Some (ModelInput (exact_mean t column))
+    → (o : Option Interval) → mean_span t column ≡ o → Holds same qs (option_map Enclosed o) (Key n)
+mean_holds same qs n t column is None e = tt
+mean_holds same qs n t column is (Some s) e =
+    let q = exact_mean t column in
+    input_holds same qs n q s is (outward_encloses q q s e q (≤ℚ_refl q) (≤ℚ_refl q))
 
 through_holds : {K : Type 0} (same : K → K → Bool) (qs : List (Quantity K)) → AllHaveExponents qs → (k : ℕ) (n : K)
     → Holds same qs (evaluation_through same qs k n) (through same qs k n)
@@ -124,7 +136,12 @@ through_holds same qs h (suc k) n = by (body_of same qs n) refl (λ m. through_h
   by : (body : Option (Body _)) → body_of same qs n ≡ body → ((m : _) → Holds same qs (evaluation_through same qs k m) (through same qs k m))
       → Holds same qs (evaluation_of_body (evaluation_through same qs k) n body) (replaced_body (through same qs k) n (model_body_of same (model_of qs) n))
   by None e before = tt
-  by (Some (Input b)) e before = rw (model-body_of same qs n, e) (input_holds same qs n b e)
+  by (Some (Input b)) e before =
+      rw (model-body_of same qs n, e)
+      (input_holds same qs n (value_of b) (point_span b) (model-body_of same qs n ∙ ap model_bodies e) (point_encloses b))
+  by (Some (Column t column)) e before =
+      rw (model-body_of same qs n, e)
+      (mean_holds same qs n t column (model-body_of same qs n ∙ ap model_bodies e) (mean_span t column) refl)
   by (Some (Function f key)) e before =
       rw (model-body_of same qs n, e) (formula_holds same qs _ _ before n f key (exponents_of same qs h n (Function f key) e))
 

@@ -1,17 +1,20 @@
 -- Quantities each of which uses quantities that are there, and the evaluations that are kept of them.
 use Rattle.std.specs.Prelude.{◌≡◌, ℕ, ◌≤◌, Bool, List, [], ◌∷◌, ◌++◌, length, Some, None, is_some}
-use Rattle.value_cache.specs.Quantities.{Body, Quantity, body_of, is_there, first_unknown, used_by}
+use Rattle.value_cache.specs.Quantities.{Body, Quantity, body_of, is_there, first_unknown, used_by, HasItsColumn}
 use Rattle.value_cache.specs.Evaluations.{Found, evaluation_through, evaluation_of}
 
--- each quantity that the body uses is there
-abbrev pub UsesOnly : {K : Type 0} → (K → K → Bool) → List (Quantity K) → Body K → Type 0
-UsesOnly same qs body = first_unknown same qs (used_by body) ≡ None
+-- what the body uses is there. Of inputs and formulas the second field asks nothing
+pub record UsesOnly {K : Type 0} (same : K → K → Bool) (qs : List (Quantity K)) (body : Body K) : Type 0 where
+  -- each quantity
+  pub known : first_unknown same qs (used_by body) ≡ None
+  -- the column, in a table that is taken: the mean of such a column has a span
+  pub column : HasItsColumn body
 
 -- quantities that can be evaluated
 pub record IsEvaluable {K : Type 0} (same : K → K → Bool) (qs : List (Quantity K)) : Type 0 where
   -- as many turns as there are quantities are enough
   pub settled : (k : ℕ) (n : K) → length qs ≤ k → evaluation_through same qs k n ≡ evaluation_of same qs n
-  -- each uses quantities that are there
+  -- each uses quantities that are there, or a column that is there
   pub closed : (n : K) (body : Body K) → body_of same qs n ≡ Some body → UsesOnly same qs body
   -- each has a span or a fault
   pub found : (n : K) → is_some (evaluation_of same qs n) ≡ is_there same qs n

@@ -1,12 +1,13 @@
 -- The evaluation of a quantity: the span of its value, or the fault that stands in its place. It is found
 -- through the quantities that each uses, in whatever order these are listed.
 use Rattle.std.specs.Prelude.{ℕ, zero, suc, Bool, true, false, if◌then◌else◌, List, [], ◌∷◌, length, Option, Some, None, Ok, Err}
-use Rattle.std.specs.Option.{option_or}
+use Rattle.std.specs.Option.{option_or, option_map}
 use Rattle.fixed_interval.specs.Interval.{Interval, point_span}
 use Rattle.formula_ast.specs.Trees.{Tree, uses}
+use Rattle.type_a.specs.Statistics.{mean_span}
 use Rattle.formula_box.specs.Values.{Answer, span_of}
 use Rattle.formula_box.specs.declared.fault.EvalFault.TheVariants.{Arith, NoValue}
-use Rattle.value_cache.specs.Quantities.{Body, Input, Function, Quantity, body_of}
+use Rattle.value_cache.specs.Quantities.{Body, Input, Function, Column, Quantity, body_of}
 use Rattle.value_cache.specs.declared.evaluation.Evaluation.{Evaluation}
 use Rattle.value_cache.specs.declared.evaluation.Evaluation.TheVariants.{Enclosed, Fault}
 
@@ -47,10 +48,12 @@ settled found row f (Err (NoValue k)) = first_fault found (uses f)
 abbrev pub evaluation_of_formula : {K : Type 0} → Named K → K → Tree → Option (Evaluation K)
 evaluation_of_formula found row f = settled found row f (span_of (λ n. span_in (found n)) f)
 
+-- what a body evaluates to. The mean of a column has a span where the table is taken
 abbrev pub evaluation_of_body : {K : Type 0} → Found K → K → Option (Body K) → Option (Evaluation K)
 evaluation_of_body found row None = None
 evaluation_of_body found row (Some (Input estimate)) = Some (Enclosed (point_span estimate))
 evaluation_of_body found row (Some (Function f key)) = evaluation_of_formula (λ n. found (key n)) row f
+evaluation_of_body found row (Some (Column t column)) = option_map Enclosed (mean_span t column)
 
 -- the evaluation of a key through at most this many quantities, each of which uses the next
 abbrev pub evaluation_through : {K : Type 0} → (K → K → Bool) → List (Quantity K) → ℕ → Found K

@@ -3,3 +3,4 @@ pub mod Evaluations
 pub mod Evaluable
 pub mod Cells
 pub mod Model
+pub mod WorkedQuantities

@@ -5,12 +5,15 @@ use Rattle.decimal18.specs.Bound.{value_of}
 use Rattle.fixed_interval.specs.Interval.{Interval, Encloses}
 use Rattle.formula_ast.specs.Trees.{HasExponents}
 use Rattle.formula_box.specs.Exact.{expression_of}
-use Rattle.value_cache.specs.Quantities.{Body, Input, Function, Quantity}
+use Rattle.type_a.specs.Statistics.{exact_mean}
+use Rattle.value_cache.specs.Quantities.{Body, Input, Function, Column, Quantity}
 
--- an input by its estimate, a formula over the quantities for which its names stand
+-- an input by its estimate, a formula over the quantities for which its names stand, and a column as an input
+-- by its mean (JCGM 100:2008, 4.2.1)
 abbrev pub model_body : {K : Type 0} → Body K → ModelBody K
 model_body (Input estimate) = ModelInput (value_of estimate)
 model_body (Function f key) = ModelFormula (replaced (λ n. Key (key n)) (expression_of f))
+model_body (Column t column) = ModelInput (exact_mean t column)
 
 abbrev pub model_row : {K : Type 0} → Quantity K → Row K
 model_row q = record { key = q.key; body = model_body q.body }
@@ -23,10 +26,12 @@ pub record HasValueIn {K : Type 0} (same : K → K → Bool) (qs : List (Quantit
   pub defined : has_value same (model_of qs) n ≡ true
   pub enclosed : Encloses s (exact_value same (model_of qs) n)
 
--- the exponents in a body's formula are from -9 to 9 and not 0
+-- the exponents in a body's formula are from -9 to 9 and not 0. Of a column nothing is asked: where its mean
+-- has a span at all, the span encloses it
 abbrev pub BodyHasExponents : {K : Type 0} → Body K → Type 0
 BodyHasExponents (Input estimate) = Unit {0}
 BodyHasExponents (Function f key) = HasExponents f
+BodyHasExponents (Column t column) = Unit {0}
 
 abbrev pub AllHaveExponents : {K : Type 0} → List (Quantity K) → Type 0
 AllHaveExponents [] = Unit {0}

@@ -1,9 +1,11 @@
-ghost use Rattle.std.specs.Prelude.{◌≡◌, ℕ, Bool, false, List, Some, find, length, map};
+ghost use Rattle.std.specs.Prelude.{◌≡◌, ℕ, Bool, false, List, Some, bytes_eq, find, length, map, pos};
 ghost use Rattle.fixed_interval.specs.Interval.{Interval};
 ghost use Rattle.formula_ast.specs.Trees.{distinct};
+ghost use Rattle.type_a.specs.WorkedTables.{eleven, span};
 ghost use Rattle.value_cache.specs.Quantities.{Quantity, body_of, is_there};
 ghost use Rattle.value_cache.specs.Evaluations.{evaluation_of};
 ghost use Rattle.value_cache.specs.Model.{AllHaveExponents, HasValueIn};
+ghost use Rattle.value_cache.specs.WorkedQuantities.{five, mean_of, x_name};
 ghost use Rattle.value_cache.specs.declared.evaluation.Evaluation.TheVariants.{Enclosed};
 
 /// Where a quantity has a span, its expanded formula has a value, and the span encloses it.
@@ -31,4 +33,12 @@ pub fn order_changes_nothing<K>()
 pub fn distinct_names_find_the_same<K>()
     ensures { (p : K → Bool) (key : List ℕ → K) (ns : List (List ℕ))
         → find p (map key (distinct ns)) ≡ find p (map key ns) }
+{}
+
+/// The means of two columns of readings: of 0.012, 0.010, 0.011, 0.013 and 0.009 it is 0.011, and of ten times
+/// 1 and once 2 it is 12/11, rounded outwards.
+pub fn worked_columns()
+    ensures five { evaluation_of bytes_eq (mean_of five) x_name ≡ Some (Enclosed (span (pos 11) 3 (pos 11) 3)) }
+    ensures eleven { evaluation_of bytes_eq (mean_of eleven) x_name
+        ≡ Some (Enclosed (span (pos 10909090909090909) 16 (pos 109090909090909091) 17)) }
 {}

@@ -15,5 +15,6 @@ mod values;
 pub use evaluation::Evaluation;
 pub use laws::{
     distinct_names_find_the_same, order_changes_nothing, unknown_has_no_value, values_are_enclosed,
+    worked_columns,
 };
 pub use values::Values;

@@ -11,6 +11,7 @@ use std::marker::Brand;
 use std::process::Abort;
 use std::sync::ledger::{Blank, Ledger};
 use std::test::Fail;
+use type_a::Readings;
 
 // The coefficients and the places of the two ends.
 type Shown = (i64, u8, i64, u8);
@@ -138,4 +139,42 @@ fn unknowns<L: Ledger>(rt: &impl Abort, alloc: Global, blank: Blank) -> Result<(
 #[test]
 fn the_first_unknown_name_is_found(rt: HostRuntime) -> Result<(), Fail> {
     unknowns::<Brand>(&rt, rt.alloc(), Blank::new(1))
+}
+
+// Five records of a first reading 1, and of a second one in units of 10^-3 with the mean 0.011.
+fn readings(alloc: Global) -> Result<Readings, Fail> {
+    let mut rows = Vec::new(alloc);
+    for thousandths in [12, 10, 11, 13, 9] {
+        let mut row = Vec::new(alloc);
+        row.push(Dec::whole(1))?;
+        row.push(Dec::new(thousandths, 3).ok_or("not a bound")?)?;
+        rows.push(row)?;
+    }
+    let Ok(readings) = Readings::new(alloc, rows.as_slice()) else {
+        return Err("not taken")?;
+    };
+    Ok(readings)
+}
+
+fn means<L: Ledger>(rt: &impl Abort, alloc: Global, blank: Blank) -> Result<(), Fail>
+    requires name { blank.name ≡ L.name }
+    requires parts { blank.parts ≡ L.parts }
+    requires one { L.parts ≡ 1 }
+{
+    let mut steps: Steps<L> = Steps::new(blank);
+    let mut values = Values::new(alloc);
+    let readings = readings(alloc)?;
+    if readings.width() != 2 {
+        return Err("another table")?;
+    }
+    values.add_column(name_of("X")?, &readings, 1, &mut steps)?;
+    add_row(alloc, &mut values, name_of("Y")?, "X + 1", &mut steps)?;
+    assert_eq!(rt; found(&values, name_of("X")?), Some(Ok((11, 3, 11, 3))));
+    assert_eq!(rt; found(&values, name_of("Y")?), Some(Ok((1011, 3, 1011, 3))));
+    Ok(())
+}
+
+#[test]
+fn formulas_use_means_of_readings(rt: HostRuntime) -> Result<(), Fail> {
+    means::<Brand>(&rt, rt.alloc(), Blank::new(1))
 }

@@ -1,7 +1,8 @@
-ghost use Rattle.std.specs.Prelude.{◌≡◌, [], None, Some, List, ℕ, true, false, not, find, is_some, if◌then◌else◌, bytes_eq, OnOk, OnErr};
+ghost use Rattle.std.specs.Prelude.{◌≡◌, ◌<◌, [], None, Some, List, ℕ, true, false, not, find, is_some, if◌then◌else◌, bytes_eq, OnOk, OnErr};
 ghost use Rattle.formula_ast.specs.Trees.{HasExponents, names_of};
 ghost use Rattle.formula_ast.specs.Views.{tree_of};
-ghost use Rattle.value_cache.specs.Quantities.{Input, Quantity, by_names, is_there};
+ghost use Rattle.type_a.specs.Tables.{width_of};
+ghost use Rattle.value_cache.specs.Quantities.{Input, Column, Quantity, by_names, is_there};
 ghost use Rattle.value_cache.specs.Evaluations.{span_in, fault_at, first_fault, evaluation_of_formula};
 ghost use Rattle.value_cache.specs.Evaluable.{Keeps, with_quantity};
 ghost use Rattle.value_cache.specs.Cells.{kept};
@@ -16,6 +17,7 @@ use line_text::OutOfMemory;
 use std::alloc::Global;
 use std::marker::Model;
 use std::sync::ledger::Ledger;
+use type_a::Readings;
 
 /// The evaluations of quantities by their names, each found once, when the quantity is added.
 #[derive(Drop)]
@@ -72,6 +74,26 @@ impl Values {
         ensures err { OnErr result (self.new ≡ self.old) }
     {
         self.add(name, Evaluation::Enclosed(point(estimate, steps)))
+    }
+
+    /// Adds the mean of a column of readings (JCGM 100:2008, 4.2.1), one of those that they have.
+    ///
+    /// # Errors
+    ///
+    /// [`OutOfMemory`] where there is no memory for it; the values stay as they were.
+    pub fn add_column<L: Ledger>(
+        &mut self,
+        name: Name,
+        readings: &Readings,
+        column: usize,
+        steps: &mut Steps<L>,
+    ) -> Result<(), OutOfMemory>
+        requires column { column < width_of readings.now }
+        ensures ok { (qs : List (Quantity (List ℕ))) → Keeps bytes_eq qs (kept self.old) → is_there bytes_eq qs name ≡ false
+            → OnOk result (Keeps bytes_eq (with_quantity qs name (Column readings.now column)) (kept self.new)) }
+        ensures err { OnErr result (self.new ≡ self.old) }
+    {
+        self.add(name, Evaluation::Enclosed(readings.mean(column, steps)))
     }
 
     /// Adds a formula whose names are those of quantities that were added before. `names` are its names.
