@@ -165,7 +165,7 @@ exact_slope-renamed same same' rename P a rows o y i p q =
     (expanded same rows y) (each-expanded P same rows o y p)
 
 -- ---- the law
-total-map : {K L : Type 0} (rename : K → L) (f : L → ℚ) (xs : List K) → total f (map rename xs) ≡ total (λ x. f (rename x)) xs
+pub total-map : {K L : Type 0} (rename : K → L) (f : L → ℚ) (xs : List K) → total f (map rename xs) ≡ total (λ x. f (rename x)) xs
 unfolding total
 total-map rename f [] = refl
 total-map rename f (x ∷ xs) = ap (λ t. f (rename x) +ℚ t) (total-map rename f xs)

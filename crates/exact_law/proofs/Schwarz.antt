@@ -15,7 +15,7 @@ use Rattle.exact_fraction.proofs.Signs.{not_negative-same, whole-not_negative}
 use Rattle.exact_law.proofs.Split.{total-linear, law_split, part-not_negative}
 
 -- ---- symmetric
-joint-sym : (n : ℕ) (q r : ℕ → ℚ) → joint n q r ≡ joint n r q
+pub joint-sym : (n : ℕ) (q r : ℕ → ℚ) → joint n q r ≡ joint n r q
 unfolding joint
 joint-sym n q r =
     ap₂ (λ s t. ((of_ℤ (pos n) *ℚ s) -ℚ t) /ℚ (of_ℤ (pos n) *ℚ of_ℤ (pos n) *ℚ of_ℤ (pos (n - 1))))

@@ -1,3 +1,3 @@
-mod Enclosed
+pub mod Enclosed
 mod Quotients
 mod Signs

@@ -1,0 +1,9 @@
+use Rattle.std.specs.Prelude.{None}
+use Rattle.covariance.specs.Groups.{group_of}
+use Rattle.covariance.specs.Partial.{cross_rows_from}
+use Rattle.covariance.proofs.Sums.{Leaves}
+use Rattle.covariance.proofs.covariances.group_covariance.Given as goal
+
+abbrev pub invariant-loop-i : goal.invariant-loop-i
+invariant-loop-i g l =
+    Leaves l.sum (cross_rows_from l.y l.z (group_of l.group) l.i) None (cross_rows_from l.y l.z (group_of l.group) 0)

@@ -1,0 +1,8 @@
+use Rattle.std.specs.Prelude.{None}
+use Rattle.covariance.specs.Groups.{group_of}
+use Rattle.covariance.specs.Partial.{rows_from}
+use Rattle.covariance.proofs.Sums.{Leaves}
+use Rattle.covariance.proofs.variances.group_variance.Given as goal
+
+abbrev pub invariant-loop-i : goal.invariant-loop-i
+invariant-loop-i g l = Leaves l.sum (rows_from l.y (group_of l.group) l.i) None (rows_from l.y (group_of l.group) 0)

@@ -1,0 +1,11 @@
+use Rattle.std.specs.Prelude.{None, map, drop}
+use Rattle.covariance.specs.Groups.{group_of, AreRegular}
+use Rattle.covariance.specs.Partial.{parts_of}
+use Rattle.covariance.proofs.Sums.{Leaves}
+use Rattle.covariance.proofs.variances.variance.Given as goal
+
+abbrev pub invariant-loop-group : goal.invariant-loop-group
+invariant-loop-group g l = record {
+  rest : Leaves l.sum (parts_of l.y (map group_of (drop l.group-index l.groups))) None (parts_of l.y (map group_of l.groups));
+  regular : AreRegular (map group_of (drop l.group-index l.groups));
+}

@@ -1,0 +1,33 @@
+use Rattle.std.specs.Prelude.{ℕ, ◌+◌, [], ◌∷◌, map, Option}
+use Rattle.std.proofs.Common.{rules}
+use Rattle.fixed_interval.specs.Interval.{Interval}
+use Rattle.covariance.specs.Groups.{Group, group_of}
+use Rattle.covariance.specs.Partial.{placed_at, placed_from, twice_at, row_at}
+use Rattle.covariance.proofs.Sums.{members-next, members-end, step_there, refused_step, at_end}
+use Rattle.covariance.proofs.variances.with_member.Goals as goal
+
+pub returns-in_err-sum-2 : goal.returns-in_err-sum-2
+returns-in_err-sum-2 g c =
+    let G : Group ℕ = group_of c.args.group.now in
+    let f : ℕ × ℕ → Option Interval = twice_at c.args.y.now G (placed_at G c.args.i) in
+    refused_step _ c.from_residual-in_err-sum-2.ensures.0 c.loop-j.sum c.args.sum (map f (placed_from G c.loop-j.j)) (f (placed_at G c.loop-j.j) ∷ [])
+    (map f (placed_from G (c.loop-j.j + 1))) (row_at c.args.y.now G c.args.i)
+    (members-next f G c.loop-j.j (search rules)) c.loop-j.invariant.rest c.in_err-sum-2.ensures
+
+pub loop-j-preserved : goal.loop-j-preserved
+loop-j-preserved g c =
+    let G : Group ℕ = group_of c.args.group.now in
+    let f : ℕ × ℕ → Option Interval = twice_at c.args.y.now G (placed_at G c.args.i) in
+    record {
+      rest = step_there c.loop-j.sum c.in_ok-sum-2.sum c.args.sum (map f (placed_from G c.loop-j.j)) (f (placed_at G c.loop-j.j) ∷ [])
+          (map f (placed_from G (c.loop-j.j + 1))) (row_at c.args.y.now G c.args.i)
+          (members-next f G c.loop-j.j (search rules)) c.loop-j.invariant.rest c.in_ok-sum-2.ensures;
+      later = search rules;
+    }
+
+pub returns : goal.returns
+returns g c =
+    let G : Group ℕ = group_of c.args.group.now in
+    let f : ℕ × ℕ → Option Interval = twice_at c.args.y.now G (placed_at G c.args.i) in
+    at_end c.loop-j.sum c.args.sum (map f (placed_from G c.loop-j.j)) (row_at c.args.y.now G c.args.i)
+    (members-end f G c.loop-j.j (search rules)) c.loop-j.invariant.rest

@@ -1,0 +1,16 @@
+//! The variance of a quantity, and the covariance of two, by the law of propagation of uncertainty (JCGM
+//! 100:2008, 5.1.2, 5.2.2): spans, from the spans of sensitivities and from groups of inputs.
+#![tactic(auto)]
+
+mod covariances;
+mod gradient;
+mod group;
+mod laws;
+mod sum;
+mod variances;
+
+pub use covariances::covariance;
+pub use gradient::Gradient;
+pub use group::{Group, member_variance};
+pub use laws::{spans_enclose_the_law, worked_covariances, worked_variances};
+pub use variances::{group_variance, variance};
