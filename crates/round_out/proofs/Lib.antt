@@ -1,0 +1,9 @@
+pub mod Tens
+pub mod Scaling
+pub mod Ends
+pub mod Units
+pub mod Zeros
+pub mod Hundredths
+pub mod Coefficients
+pub mod Said
+pub mod Literals

@@ -1,0 +1,5 @@
+pub mod Settled
+pub mod Scales
+pub mod Printed
+pub mod Correlations
+pub mod WithinOne

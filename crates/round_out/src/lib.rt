@@ -1,0 +1,20 @@
+//! Rounded numbers (JCGM 100:2008, 7.2.6), where a span of values settles them.
+#![tactic(auto)]
+
+mod coefficient;
+mod digits;
+mod estimate;
+mod laws;
+mod print;
+mod scale;
+#[cfg(test)]
+mod tests;
+
+pub use coefficient::{CorrSaid, correlation};
+pub use digits::{Rounded, two_digits};
+pub use estimate::estimate_at;
+pub use laws::{
+    one_answer, texts_are_literals, worked_correlations, worked_digits, worked_estimates,
+    worked_meanings, worked_texts,
+};
+pub use print::print_at;
