@@ -4,7 +4,7 @@ use Rattle.std.specs.List.{flat_map, list_any}
 use Rattle.std.proofs.Common.{sym, ◌∙◌, ap, ap₂}
 use Rattle.std.proofs.lemmas.List.{map-append}
 use Rattle.std.proofs.lemmas.Slice.Eq.{bytes_eq-Decides}
-use Rattle.sheet_rows.specs.Rows.{Row, Given, Formula, quantities_of}
+use Rattle.sheet_rows.specs.Rows.{Row, Given, Readings, Correlation, Formula, quantities_of}
 use Rattle.sheet_edits.specs.Sheets.{quantities_in, is_quantity_in}
 use Rattle.value_cache.specs.Quantities.{Quantity, is_there}
 use Rattle.edit_session.specs.Replies.{row_quantities}
@@ -25,6 +25,8 @@ names qs = map (λ q. q.key) qs
 
 row_names : (row : Row) → names (row_quantities row) ≡ quantities_of row
 row_names (Given name estimate shape dof) = refl
+row_names (Readings name table) = refl
+row_names (Correlation name first second coefficient) = refl
 row_names (Formula name f) = refl
 
 pub all_names : (rows : List Row) → names (flat_map row_quantities rows) ≡ quantities_in rows

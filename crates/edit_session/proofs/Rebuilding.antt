@@ -1,21 +1,21 @@
 -- Each command by which a sheet is built again is carried out, and the sheet comes of it.
-use Rattle.std.specs.Prelude.{◌≡◌, ℕ, ◌≤◌, Bool, true, false, ◌&&◌, ◌||◌, not, if◌then◌else◌, List, [], ◌∷◌, ◌++◌, map, length, Ok, bytes_eq, refl}
-use Rattle.std.specs.List.{list_all}
+use Rattle.std.specs.Prelude.{◌≡◌, ℕ, ◌≤◌, Bool, true, false, ◌&&◌, ◌||◌, not, if◌then◌else◌, List, [], ◌∷◌, ◌++◌, map, length, is_some, Ok, bytes_eq, refl}
+use Rattle.std.specs.List.{list_any, list_all}
 use Rattle.std.proofs.Common.{sym, ◌∙◌, ap, ap₂, subst, arith, length-append}
 use Rattle.std.proofs.lemmas.List.{append_assoc, append-nil, length-map, map-append}
 use Rattle.std.proofs.lemmas.List.Folds.{list_any-append, list_all-append}
-use Rattle.std.proofs.lemmas.Bool.{and_parts, or_parts, and_from, not-true}
-use Rattle.sheet_rows.specs.Rows.{Row, Given, Formula, Sheet, name_of, used_names}
-use Rattle.sheet_edits.specs.Sheets.{IsWellFormed, row_limit, is_named, is_among, is_quantity_in, are_named_once, are_known, are_earlier, added, rows_with, set_row}
-use Rattle.sheet_edits.proofs.Conditions.{other_way}
-use Rattle.sheet_edits.proofs.Verdicts.{named_itself, quantity_is_row, list_all_agree}
+use Rattle.std.proofs.lemmas.Bool.{true≢false, and_parts, or_parts, and_from, not-true}
+use Rattle.sheet_rows.specs.Rows.{Row, Given, Readings, Correlation, Formula, Sheet, name_of, used_names, gives, correlated_names, correlates, is_correlatable}
+use Rattle.sheet_edits.specs.Sheets.{IsWellFormed, row_limit, is_named, is_among, is_quantity_in, is_correlatable_in, repeated_name, are_correlatable, is_correlated_apart, are_apart, are_named_once, are_known, are_earlier, added, rows_with, set_row}
+use Rattle.sheet_edits.proofs.Conditions.{other_way, all_more, named_itself}
+use Rattle.sheet_edits.proofs.Verdicts.{quantity_named}
 use Rattle.sheet_edits.proofs.Adding.{add_complete}
 use Rattle.sheet_edits.proofs.Setting.{set_complete}
 use Rattle.answers.specs.declared.reply.Reply.TheVariants.{Fine}
 use Rattle.answers.specs.Commands.{Edit, Command, Change, Add, Set}
 use Rattle.edit_session.specs.Replies.{reply_to}
 use Rattle.edit_session.specs.Machine.{State, initial, accepted, verdict, edited, step}
-use Rattle.edit_session.specs.Rebuild.{as_input, additions, formulas_set, rebuild, state_after, AreFine, IsBuiltBy}
+use Rattle.edit_session.specs.Rebuild.{as_input, additions, users_set, rebuild, state_after, AreFine, IsBuiltBy}
 
 -- the sheet of these rows
 abbrev of_rows : List Row → Sheet
@@ -65,11 +65,33 @@ set_here (first ∷ a) old row b e new =
 -- ---- rows as inputs
 name-as_input : (row : Row) → name_of (as_input row) ≡ name_of row
 name-as_input (Given name estimate shape dof) = refl
+name-as_input (Readings name table) = refl
+name-as_input (Correlation name first second coefficient) = refl
 name-as_input (Formula name formula) = refl
 
 known-as_input : (sheet : List Row) (row : Row) → are_known sheet (as_input row) ≡ true
 known-as_input sheet (Given name estimate shape dof) = refl
+known-as_input sheet (Readings name table) = refl
+known-as_input sheet (Correlation name first second coefficient) = refl
 known-as_input sheet (Formula name formula) = refl
+
+correlatable-as_input : (sheet : List Row) (row : Row) → are_correlatable sheet (as_input row) ≡ true
+correlatable-as_input sheet (Given name estimate shape dof) = refl
+correlatable-as_input sheet (Readings name table) = refl
+correlatable-as_input sheet (Correlation name first second coefficient) = refl
+correlatable-as_input sheet (Formula name formula) = refl
+
+correlates-as_input : (row : Row) (n : List ℕ) → correlates (as_input row) n ≡ false
+correlates-as_input (Given name estimate shape dof) n = refl
+correlates-as_input (Readings name table) n = refl
+correlates-as_input (Correlation name first second coefficient) n = refl
+correlates-as_input (Formula name formula) n = refl
+
+apart-as_input : (sheet : List Row) (row : Row) → are_apart sheet (as_input row) ≡ true
+apart-as_input sheet (Given name estimate shape dof) = refl
+apart-as_input sheet (Readings name table) = refl
+apart-as_input sheet (Correlation name first second coefficient) = refl
+apart-as_input sheet (Formula name formula) = refl
 
 is_among-inputs : (rows : List Row) (n : List ℕ) → is_among (map as_input rows) n ≡ is_among rows n
 is_among-inputs [] n = refl
@@ -80,9 +102,10 @@ once-inputs [] = refl
 once-inputs (row ∷ rows) =
     ap₂ (λ a b. not a && b) (ap (is_among (map as_input rows)) (name-as_input row) ∙ is_among-inputs rows (name_of row)) (once-inputs rows)
 
-known-inputs : (sheet rows : List Row) → list_all (are_known sheet) (map as_input rows) ≡ true
-known-inputs sheet [] = refl
-known-inputs sheet (row ∷ rows) = ap₂ (λ a b. a && b) (known-as_input sheet row) (known-inputs sheet rows)
+-- what holds of each row as an input holds of all
+all-inputs : (p : Row → Bool) → ((row : Row) → p (as_input row) ≡ true) → (rows : List Row) → list_all p (map as_input rows) ≡ true
+all-inputs p h [] = refl
+all-inputs p h (row ∷ rows) = ap₂ (λ a b. a && b) (h row) (all-inputs p h rows)
 
 earlier-inputs : (before rows : List Row) → are_earlier before (map as_input rows) ≡ true
 earlier-inputs before [] = refl
@@ -93,8 +116,10 @@ inputs_well_formed : (rows : List Row) → length rows ≤ row_limit → are_nam
 inputs_well_formed rows limit once = record {
   limit = subst (λ n. n ≤ row_limit) (sym (length-map rows as_input)) limit;
   once = once-inputs rows ∙ once;
-  known = known-inputs (map as_input rows) rows;
+  known = all-inputs (are_known (map as_input rows)) (known-as_input (map as_input rows)) rows;
   earlier = earlier-inputs [] rows;
+  correlatable = all-inputs (are_correlatable (map as_input rows)) (correlatable-as_input (map as_input rows)) rows;
+  apart = all-inputs (are_apart (map as_input rows)) (apart-as_input (map as_input rows)) rows;
 }
 
 -- ---- a sheet whose last rows stand as inputs
@@ -106,10 +131,55 @@ once-partly : (a b : List Row) → are_named_once (a ++ map as_input b) ≡ are_
 once-partly [] b = once-inputs b
 once-partly (row ∷ a) b = ap₂ (λ x y. not x && y) (is_among-partly a b (name_of row)) (once-partly a b)
 
-known_same : (s t : List Row) → ((n : List ℕ) → is_quantity_in s n ≡ is_quantity_in t n) → (rows : List Row)
-    → list_all (are_known s) rows ≡ list_all (are_known t) rows
-known_same s t e [] = refl
-known_same s t e (row ∷ rows) = ap₂ (λ x y. x && y) (list_all_agree (is_quantity_in s) (is_quantity_in t) e (used_names row)) (known_same s t e rows)
+-- where a row passes, it passes as an input: then so does a list whose last rows stand as inputs
+more : (p : Row → Bool) → ((row : Row) → p row ≡ true → p (as_input row) ≡ true) → (rows : List Row) → list_any p rows ≡ true
+    → list_any p (map as_input rows) ≡ true
+more p h [] e = e
+more p h (row ∷ rows) e = by (p row) refl (more p h rows) e where
+  by : (t : Bool) → p row ≡ t → (list_any p rows ≡ true → list_any p (map as_input rows) ≡ true) → (t || list_any p rows) ≡ true
+      → list_any p (map as_input (row ∷ rows)) ≡ true
+  by true k rest f = ap (λ b. b || list_any p (map as_input rows)) (h row k)
+  by false k rest f = ap (λ b. p (as_input row) || b) (rest f) ∙ or_true (p (as_input row))
+
+more-partly : (p : Row → Bool) → ((row : Row) → p row ≡ true → p (as_input row) ≡ true) → (a b : List Row) → list_any p (a ++ b) ≡ true
+    → list_any p (a ++ map as_input b) ≡ true
+more-partly p h [] b e = more p h b e
+more-partly p h (row ∷ a) b e = by (p row) (more-partly p h a b) e where
+  by : (t : Bool) → (list_any p (a ++ b) ≡ true → list_any p (a ++ map as_input b) ≡ true) → (t || list_any p (a ++ b)) ≡ true
+      → (t || list_any p (a ++ map as_input b)) ≡ true
+  by true rest f = refl
+  by false rest f = rest f
+
+given-as_input : (n : List ℕ) (row : Row) → (is_named n row && gives row n) ≡ true → (is_named n (as_input row) && gives (as_input row) n) ≡ true
+given-as_input n (Given name estimate shape dof) e = e
+given-as_input n (Readings name table) e = e
+given-as_input n (Correlation name first second coefficient) e = absurd (true≢false (sym (and_parts (bytes_eq n name) false e).1))
+given-as_input n (Formula name f) e = e
+
+correlatable-as_input-too : (n : List ℕ) (row : Row) → (is_named n row && is_correlatable row) ≡ true
+    → (is_named n (as_input row) && is_correlatable (as_input row)) ≡ true
+correlatable-as_input-too n (Given name estimate shape dof) e = e
+correlatable-as_input-too n (Readings name table) e = e
+correlatable-as_input-too n (Correlation name first second coefficient) e = absurd (true≢false (sym (and_parts (bytes_eq n name) false e).1))
+correlatable-as_input-too n (Formula name f) e = absurd (true≢false (sym (and_parts (bytes_eq n name) false e).1))
+
+-- no row as an input is a correlation
+none_apart : (row : Row) (n : List ℕ) (rows : List Row) → is_correlated_apart (map as_input rows) row n ≡ false
+none_apart row n [] = refl
+none_apart row n (other ∷ rows) =
+    ap₂ (λ a b. (not (is_named (name_of row) (as_input other)) && a) || b) (correlates-as_input other n) (none_apart row n rows)
+    ∙ ap (λ b. b || false) (and_false (not (is_named (name_of row) (as_input other))))
+  where
+    and_false : (b : Bool) → (b && false) ≡ false
+    and_false true = refl
+    and_false false = refl
+
+apart-partly : (a b : List Row) (row : Row) (n : List ℕ) → not (is_correlated_apart (a ++ b) row n) ≡ true
+    → not (is_correlated_apart (a ++ map as_input b) row n) ≡ true
+apart-partly a b row n e =
+    let test : Row → Bool = λ other. not (is_named (name_of row) other) && correlates other n in
+    let none : (list_any test a || list_any test b) ≡ false = sym (list_any-append test a b) ∙ not-true (is_correlated_apart (a ++ b) row n) e in
+    ap not (list_any-append test a (map as_input b) ∙ ap₂ (λ x y. x || y) (or_parts (list_any test a) (list_any test b) none).0 (none_apart row n b))
 
 earlier-partly : (before a b : List Row) → are_earlier before (a ++ b) ≡ true → are_earlier before (a ++ map as_input b) ≡ true
 earlier-partly before [] b e = earlier-inputs before b
@@ -119,21 +189,41 @@ earlier-partly before (row ∷ a) b e =
     (earlier-partly (before ++ row ∷ []) a b (and_parts (are_known before row) (are_earlier (before ++ row ∷ []) (a ++ b)) e).1)
 
 partly_well_formed : (a b : List Row) → IsWellFormed (of_rows (a ++ b)) → IsWellFormed (of_rows (a ++ map as_input b))
-partly_well_formed a b h = record { limit = limit; once = once-partly a b ∙ h.once; known = known; earlier = earlier-partly [] a b h.earlier } where
-  limit : length (a ++ map as_input b) ≤ row_limit
-  limit = omega (arith, length-append a (map as_input b), length-append a b, length-map b as_input, h.limit)
+partly_well_formed a b h = record {
+  limit = omega (arith, length-append a (map as_input b), length-append a b, length-map b as_input, h.limit);
+  once = once-partly a b ∙ h.once;
+  known = all_partly are_known known-as_input (λ row. all_more (is_quantity_in (a ++ b)) (is_quantity_in partly) still_quantity (used_names row)) h.known;
+  earlier = earlier-partly [] a b h.earlier;
+  correlatable = all_partly are_correlatable correlatable-as_input still_correlatable h.correlatable;
+  apart =
+      all_partly are_apart apart-as_input
+      (λ row. all_more (λ n. not (is_correlated_apart (a ++ b) row n)) (λ n. not (is_correlated_apart partly row n)) (apart-partly a b row) (correlated_names row))
+      h.apart;
+} where
+  partly : List Row
+  partly = a ++ map as_input b
 
-  same : (n : List ℕ) → is_quantity_in (a ++ map as_input b) n ≡ is_quantity_in (a ++ b) n
-  same n = quantity_is_row (a ++ map as_input b) n ∙ is_among-partly a b n ∙ sym (quantity_is_row (a ++ b) n)
+  still_quantity : (n : List ℕ) → is_quantity_in (a ++ b) n ≡ true → is_quantity_in partly n ≡ true
+  still_quantity n e =
+      quantity_named partly n ∙ more-partly (λ row. is_named n row && gives row n) (given-as_input n) a b (sym (quantity_named (a ++ b) n) ∙ e)
 
-  prefix : list_all (are_known (a ++ b)) a ≡ true
-  prefix = (and_parts (list_all (are_known (a ++ b)) a) (list_all (are_known (a ++ b)) b) (sym (list_all-append (are_known (a ++ b)) a b) ∙ h.known)).0
+  still_correlatable : (row : Row) → are_correlatable (a ++ b) row ≡ true → are_correlatable partly row ≡ true
+  still_correlatable row e =
+      let parts = and_parts (list_all (is_correlatable_in (a ++ b)) (correlated_names row)) (not (is_some (repeated_name row))) e in
+      and_from (list_all (is_correlatable_in partly) (correlated_names row)) (not (is_some (repeated_name row)))
+      (all_more (is_correlatable_in (a ++ b)) (is_correlatable_in partly)
+      (λ n. more-partly (λ other. is_named n other && is_correlatable other) (correlatable-as_input-too n) a b) (correlated_names row) parts.0)
+      parts.1
 
-  known : list_all (are_known (a ++ map as_input b)) (a ++ map as_input b) ≡ true
-  known =
-      list_all-append (are_known (a ++ map as_input b)) a (map as_input b)
-      ∙ and_from (list_all (are_known (a ++ map as_input b)) a) (list_all (are_known (a ++ map as_input b)) (map as_input b))
-      (known_same (a ++ map as_input b) (a ++ b) same a ∙ prefix) (known-inputs (a ++ map as_input b) b)
+  -- what holds of each row among all, and of each row as an input, holds of the rows of which the last stand as inputs
+  all_partly : (p : List Row → Row → Bool) → ((sheet : List Row) (row : Row) → p sheet (as_input row) ≡ true)
+      → ((row : Row) → p (a ++ b) row ≡ true → p partly row ≡ true) → list_all (p (a ++ b)) (a ++ b) ≡ true → list_all (p partly) partly ≡ true
+  all_partly p inputs still e =
+      list_all-append (p partly) a (map as_input b)
+      ∙ and_from (list_all (p partly) a) (list_all (p partly) (map as_input b))
+      (all_more (p (a ++ b)) (p partly) still a
+      (and_parts (list_all (p (a ++ b)) a) (list_all (p (a ++ b)) b) (sym (list_all-append (p (a ++ b)) a b) ∙ e)).0)
+      (all-inputs (p partly) (inputs partly) b)
 
 -- ---- runs
 -- from each state with the one sheet the commands are carried out, and lead to the other sheet
@@ -166,33 +256,45 @@ additions_lead done (row ∷ rest) commands last limit once lead =
     (additions_lead (done ++ row ∷ []) rest commands last limit' once'
     (subst (λ rows. Lead commands (of_rows (map as_input rows)) last) (sym longer) lead))
 
-formulas_lead : (done rest : List Row) → IsWellFormed (of_rows (done ++ rest))
-    → Lead (formulas_set rest) (of_rows (done ++ map as_input rest)) (of_rows (done ++ rest))
-formulas_lead done [] h = λ state e. (tt, e)
-formulas_lead done (Given name estimate shape dof ∷ rest) h =
-    let row : Row = Given name estimate shape dof in
-    let longer : (done ++ row ∷ []) ++ rest ≡ done ++ row ∷ rest = append_assoc done (row ∷ []) rest in
-    subst (λ rows. Lead (formulas_set rest) (of_rows rows) (of_rows (done ++ row ∷ rest))) (append_assoc done (row ∷ []) (map as_input rest))
-    (subst (λ rows. Lead (formulas_set rest) (of_rows ((done ++ row ∷ []) ++ map as_input rest)) (of_rows rows)) longer
-    (formulas_lead (done ++ row ∷ []) rest (subst (λ rows. IsWellFormed (of_rows rows)) (sym longer) h)))
-formulas_lead done (Formula name f ∷ rest) h =
-    let row : Row = Formula name f in
-    let longer : (done ++ row ∷ []) ++ rest ≡ done ++ row ∷ rest = append_assoc done (row ∷ []) rest in
-    let further : (done ++ row ∷ []) ++ map as_input rest ≡ done ++ row ∷ map as_input rest = append_assoc done (row ∷ []) (map as_input rest) in
+-- a row that stands already
+stays : (done rest : List Row) (row : Row)
+    → Lead (users_set rest) (of_rows ((done ++ row ∷ []) ++ map as_input rest)) (of_rows ((done ++ row ∷ []) ++ rest))
+    → Lead (users_set rest) (of_rows (done ++ row ∷ map as_input rest)) (of_rows (done ++ row ∷ rest))
+stays done rest row lead =
+    subst (λ rows. Lead (users_set rest) (of_rows rows) (of_rows (done ++ row ∷ rest))) (append_assoc done (row ∷ []) (map as_input rest))
+    (subst (λ rows. Lead (users_set rest) (of_rows ((done ++ row ∷ []) ++ map as_input rest)) (of_rows rows)) (append_assoc done (row ∷ []) rest) lead)
+
+-- a row that is set in the place of an input
+is_set : (done rest : List Row) (row : Row) → IsWellFormed (of_rows (done ++ row ∷ rest))
+    → Lead (users_set rest) (of_rows ((done ++ row ∷ []) ++ map as_input rest)) (of_rows ((done ++ row ∷ []) ++ rest))
+    → Lead (Change (Set row) ∷ users_set rest) (of_rows (done ++ as_input row ∷ map as_input rest)) (of_rows (done ++ row ∷ rest))
+is_set done rest row h lead =
     let sheet : Sheet = of_rows (done ++ as_input row ∷ map as_input rest) in
     let set : set_row row sheet ≡ of_rows (done ++ row ∷ map as_input rest) =
-    ap of_rows (set_here done (as_input row) row (map as_input rest) refl (once_new done row rest h.once)) in
+    ap of_rows (set_here done (as_input row) row (map as_input rest) (sym (name-as_input row)) (once_new done row rest h.once)) in
     let after : IsWellFormed (of_rows (done ++ row ∷ map as_input rest)) =
-    subst (λ rows. IsWellFormed (of_rows rows)) further
-    (partly_well_formed (done ++ row ∷ []) rest (subst (λ rows. IsWellFormed (of_rows rows)) (sym longer) h)) in
-    lead_edit (Set row) (formulas_set rest) sheet (of_rows (done ++ row ∷ map as_input rest)) (of_rows (done ++ row ∷ rest))
-    (set_complete sheet row (partly_well_formed done (row ∷ rest) h) (has_here done (as_input row) (map as_input rest) name refl)
-    (subst IsWellFormed (sym set) after) ∙ ap Ok set)
-    (subst (λ rows. Lead (formulas_set rest) (of_rows rows) (of_rows (done ++ row ∷ rest))) further
-    (subst (λ rows. Lead (formulas_set rest) (of_rows ((done ++ row ∷ []) ++ map as_input rest)) (of_rows rows)) longer
-    (formulas_lead (done ++ row ∷ []) rest (subst (λ rows. IsWellFormed (of_rows rows)) (sym longer) h))))
+    subst (λ rows. IsWellFormed (of_rows rows)) (append_assoc done (row ∷ []) (map as_input rest))
+    (partly_well_formed (done ++ row ∷ []) rest (subst (λ rows. IsWellFormed (of_rows rows)) (sym (append_assoc done (row ∷ []) rest)) h)) in
+    lead_edit (Set row) (users_set rest) sheet (of_rows (done ++ row ∷ map as_input rest)) (of_rows (done ++ row ∷ rest))
+    (set_complete sheet row (partly_well_formed done (row ∷ rest) h)
+    (has_here done (as_input row) (map as_input rest) (name_of row) (sym (name-as_input row))) (subst IsWellFormed (sym set) after) ∙ ap Ok set)
+    (stays done rest row lead)
+
+users_lead : (done rest : List Row) → IsWellFormed (of_rows (done ++ rest))
+    → Lead (users_set rest) (of_rows (done ++ map as_input rest)) (of_rows (done ++ rest))
+users_lead done [] h = λ state e. (tt, e)
+users_lead done (row ∷ rest) h =
+    by row (users_lead (done ++ row ∷ []) rest (subst (λ rows. IsWellFormed (of_rows rows)) (sym (append_assoc done (row ∷ []) rest)) h)) h
+  where
+    by : (row : Row) → Lead (users_set rest) (of_rows ((done ++ row ∷ []) ++ map as_input rest)) (of_rows ((done ++ row ∷ []) ++ rest))
+        → IsWellFormed (of_rows (done ++ row ∷ rest))
+        → Lead (users_set (row ∷ rest)) (of_rows (done ++ map as_input (row ∷ rest))) (of_rows (done ++ row ∷ rest))
+    by (Given name estimate shape dof) lead g = stays done rest (Given name estimate shape dof) lead
+    by (Readings name table) lead g = stays done rest (Readings name table) lead
+    by (Correlation name first second coefficient) lead g = is_set done rest (Correlation name first second coefficient) g lead
+    by (Formula name f) lead g = is_set done rest (Formula name f) g lead
 
 pub rebuilt : (sheet : Sheet) → IsWellFormed sheet → IsBuiltBy (rebuild sheet) sheet
 rebuilt sheet h =
-    let run = additions_lead [] sheet.rows (formulas_set sheet.rows) sheet h.limit h.once (formulas_lead [] sheet.rows h) initial refl in
+    let run = additions_lead [] sheet.rows (users_set sheet.rows) sheet h.limit h.once (users_lead [] sheet.rows h) initial refl in
     record { fine = run.0; built = run.1; reply = λ query. ap (λ present. reply_to present query) run.1 }

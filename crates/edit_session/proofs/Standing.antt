@@ -112,7 +112,7 @@ stepped-standing old new command reply h regular e = subst IsStandingState (ap (
 
 pub initial_stands : IsStandingState initial
 initial_stands = record {
-  present = record { well_formed = record { limit = omega arith; once = refl; known = refl; earlier = refl }; regular = tt };
+  present = record { well_formed = record { limit = omega arith; once = refl; known = refl; earlier = refl; correlatable = refl; apart = refl }; regular = tt };
   past = tt;
   future = tt;
   marks = tt;

@@ -1,18 +1,18 @@
 -- In a sheet that stands each row has new names and uses quantities of the rows before it.
 use Rattle.std.specs.Prelude.{◌≡◌, ℕ, suc, ◌+◌, ◌<◌, ◌≤◌, Bool, true, false, ◌||◌, not, bytes_eq, List, [], ◌∷◌, ◌++◌, map, drop, length, refl}
 use Rattle.std.specs.List.{list_all, flat_map}
-use Rattle.std.proofs.Common.{sym, ◌∙◌, ap, ap₂, subst, get_or, drop-cons, add-one}
+use Rattle.std.proofs.Common.{arith, sym, ◌∙◌, ap, ap₂, subst, get_or, drop-cons, add-one}
 use Rattle.std.proofs.lemmas.List.{drop_all, append_assoc, append-nil, flat_map_more, map-id}
 use Rattle.std.proofs.lemmas.Bool.{and_parts, or_parts, and_from, not-true}
 use Rattle.formula_ast.specs.Trees.{uses}
 use Rattle.formula_ast.specs.Printing.{print}
 use Rattle.formula_ast.proofs.Exponents.{read_exponents}
-use Rattle.sheet_rows.specs.Rows.{Row, Given, Formula, Sheet, name_of}
+use Rattle.sheet_rows.specs.Rows.{Row, Given, Readings, Correlation, Formula, Sheet, name_of, quantities_of}
 use Rattle.sheet_edits.specs.Sheets.{is_among, is_quantity_in, are_named_once, are_known, are_earlier}
-use Rattle.sheet_rows.specs.Regular.{AreRegular}
+use Rattle.sheet_rows.specs.Regular.{IsRegular, AreRegular}
 use Rattle.sheet_edits.specs.Standing.{IsStanding}
-use Rattle.sheet_edits.proofs.Conditions.{other_way, all_none}
-use Rattle.sheet_edits.proofs.Verdicts.{added_has, quantity_is_row, list_all_agree}
+use Rattle.sheet_edits.proofs.Conditions.{other_way, all_none, list_all_agree}
+use Rattle.sheet_edits.proofs.Verdicts.{added_has, no_quantity}
 use Rattle.value_cache.specs.Quantities.{is_there, first_unknown}
 use Rattle.value_cache.specs.Model.{AllHaveExponents}
 use Rattle.value_cache.specs.Evaluable.{IsEvaluable, Keeps}
@@ -27,18 +27,25 @@ use Rattle.edit_session.proofs.Names.{there-is_quantity}
 pub exponents_of_rows : (rows : List Row) → AreRegular rows → AllHaveExponents (flat_map row_quantities rows)
 exponents_of_rows [] h = tt
 exponents_of_rows (Given name estimate shape dof ∷ rows) h = (tt, exponents_of_rows rows h.1)
+exponents_of_rows (Readings name table ∷ rows) h = (tt, exponents_of_rows rows h.1)
+exponents_of_rows (Correlation name first second coefficient ∷ rows) h = exponents_of_rows rows h.1
 exponents_of_rows (Formula name f ∷ rows) h = (read_exponents (print f) f h.0.1, exponents_of_rows rows h.1)
 
 -- a row with a new name has quantities with new names
 fresh_by : (before : List Row) (row : Row) → is_among before (name_of row) ≡ false
     → AreFresh (flat_map row_quantities before) (row_quantities row)
-fresh_by before (Given name estimate shape dof) e = (there-is_quantity before name ∙ quantity_is_row before name ∙ e, tt)
-fresh_by before (Formula name f) e = (there-is_quantity before name ∙ quantity_is_row before name ∙ e, tt)
+fresh_by before (Given name estimate shape dof) e = (there-is_quantity before name ∙ no_quantity before name e, tt)
+fresh_by before (Readings name table) e = (there-is_quantity before name ∙ no_quantity before name e, tt)
+fresh_by before (Correlation name first second coefficient) e = tt
+fresh_by before (Formula name f) e = (there-is_quantity before name ∙ no_quantity before name e, tt)
 
--- a row whose names are known uses quantities that are there
-known_by : (before : List Row) (row : Row) → are_known before row ≡ true → AllUseOnly (flat_map row_quantities before) (row_quantities row)
-known_by before (Given name estimate shape dof) e = (refl, tt)
-known_by before (Formula name f) e = (
+-- a regular row whose names are known uses quantities that are there, and its readings are taken
+known_by : (before : List Row) (row : Row) → IsRegular row → are_known before row ≡ true → AllUseOnly (flat_map row_quantities before) (row_quantities row)
+known_by before (Given name estimate shape dof) regular e = (record { known = refl; column = tt }, tt)
+known_by before (Readings name table) regular e =
+    (record { known = refl; column = record { taken = regular.3; there = omega (arith, regular.2) } }, tt)
+known_by before (Correlation name first second coefficient) regular e = tt
+known_by before (Formula name f) regular e = (
   uses_names (flat_map row_quantities before) f
       (all_none (is_there bytes_eq (flat_map row_quantities before)) (uses f)
       (list_all_agree (is_there bytes_eq (flat_map row_quantities before)) (is_quantity_in before) (there-is_quantity before) (uses f) ∙ e)),
@@ -68,7 +75,7 @@ follow before (row ∷ rest) apart once earlier regular = (
     fresh =
         fresh_by before row
         (not-true (is_among before (name_of row)) (and_parts (not (is_among before (name_of row))) (are_apart before rest) apart).0);
-    known = known_by before row (and_parts (are_known before row) (are_earlier (before ++ row ∷ []) rest) earlier).0;
+    known = known_by before row regular.0 (and_parts (are_known before row) (are_earlier (before ++ row ∷ []) rest) earlier).0;
     regular = regular.0;
   },
   follow (before ++ row ∷ []) rest
@@ -113,9 +120,11 @@ walk_begins sheet rest h e =
 pub knows_uses : (before : List Row) (row : Row) (cells : Cells) → Keeps bytes_eq (flat_map row_quantities before) (kept cells) → IsNext before row
     → KnowsUses cells row
 knows_uses before (Given name estimate shape dof) cells keeps next = tt
+knows_uses before (Readings name table) cells keeps next = tt
+knows_uses before (Correlation name first second coefficient) cells keeps next = tt
 knows_uses before (Formula name f) cells keeps next =
     unknown_same (flat_map row_quantities before) cells keeps f
-    ∙ ap (first_unknown bytes_eq (flat_map row_quantities before)) (sym (map-id (uses f))) ∙ next.known.0
+    ∙ ap (first_unknown bytes_eq (flat_map row_quantities before)) (sym (map-id (uses f))) ∙ next.known.0.known
 
 pub walked_on : (rows rest : List Row) (row : Row) (cells cells' : Cells) → IsWalked rows (row ∷ rest) cells
     → ((qs : Quantities) → Keeps bytes_eq qs (kept cells) → AreFresh qs (row_quantities row) → Keeps bytes_eq (qs ++ row_quantities row) (kept cells'))

@@ -1,30 +1,34 @@
--- How a sheet is built again: its inputs and an input in the place of each formula first, then the formulas.
+-- How a sheet is built again: its inputs and an input in the place of each formula and correlation first, then these.
 use Rattle.std.specs.Prelude.{◌≡◌, List, [], ◌∷◌, ◌++◌, map}
 use Rattle.fixed_interval.specs.Rules.{zero_bound}
 use Rattle.type_b.specs.declared.shape.Shape.TheVariants.{Exact}
 use Rattle.type_b.specs.declared.shape.Dof.TheVariants.{Inf}
-use Rattle.sheet_rows.specs.Rows.{Row, Given, Formula, Sheet}
+use Rattle.sheet_rows.specs.Rows.{Row, Given, Readings, Correlation, Formula, Sheet}
 use Rattle.answers.specs.declared.command.Query.{Query}
 use Rattle.answers.specs.declared.reply.Reply.TheVariants.{Fine}
 use Rattle.answers.specs.Commands.{Command, Change, Add, Set, Ask}
 use Rattle.edit_session.specs.Replies.{reply_to}
 use Rattle.edit_session.specs.Machine.{State, initial, step}
 
--- the exact input 0 in the place of a formula
+-- the exact input 0 in the place of a row that uses others
 abbrev pub as_input : Row → Row
 as_input (Given name estimate shape dof) = Given name estimate shape dof
+as_input (Readings name table) = Readings name table
+as_input (Correlation name first second coefficient) = Given name zero_bound Exact Inf
 as_input (Formula name formula) = Given name zero_bound Exact Inf
 
 abbrev pub additions : List Row → List Command
 additions rows = map (λ row. Change (Add (as_input row))) rows
 
-abbrev pub formulas_set : List Row → List Command
-formulas_set [] = []
-formulas_set (Given name estimate shape dof ∷ rows) = formulas_set rows
-formulas_set (Formula name formula ∷ rows) = Change (Set (Formula name formula)) ∷ formulas_set rows
+abbrev pub users_set : List Row → List Command
+users_set [] = []
+users_set (Given name estimate shape dof ∷ rows) = users_set rows
+users_set (Readings name table ∷ rows) = users_set rows
+users_set (Correlation name first second coefficient ∷ rows) = Change (Set (Correlation name first second coefficient)) ∷ users_set rows
+users_set (Formula name formula ∷ rows) = Change (Set (Formula name formula)) ∷ users_set rows
 
 abbrev pub rebuild : Sheet → List Command
-rebuild sheet = additions sheet.rows ++ formulas_set sheet.rows
+rebuild sheet = additions sheet.rows ++ users_set sheet.rows
 
 -- ---- runs
 -- the state after these commands

@@ -1,9 +1,9 @@
 -- The reply of a sheet to a query.
 use Rattle.std.specs.Prelude.{ℕ, if◌then◌else◌, List, [], ◌∷◌, Option, None, Some, bytes_eq}
 use Rattle.std.specs.List.{flat_map}
-use Rattle.sheet_rows.specs.Rows.{Row, Given, Formula, Sheet}
+use Rattle.sheet_rows.specs.Rows.{Row, Given, Readings, Correlation, Formula, Sheet}
 use Rattle.sheet_edits.specs.Sheets.{has_quantity}
-use Rattle.value_cache.specs.Quantities.{Input, Quantity, by_names}
+use Rattle.value_cache.specs.Quantities.{Input, Column, Quantity, by_names}
 use Rattle.value_cache.specs.Evaluations.{evaluation_of}
 use Rattle.value_cache.specs.declared.evaluation.Evaluation.{Evaluation}
 use Rattle.value_cache.specs.declared.evaluation.Evaluation.TheVariants.{Enclosed, Fault}
@@ -15,9 +15,11 @@ use Rattle.answers.specs.declared.reply.Reply.{Reply}
 use Rattle.answers.specs.declared.reply.Reply.TheVariants.{Ask, Said}
 
 -- ---- the quantities of a sheet
--- those of a row, in their order, under the names that have a value by it. A row may have none, or several
+-- those of a row, in their order, under the names that have a value by it. A row may have none
 abbrev pub row_quantities : Row → List (Quantity (List ℕ))
 row_quantities (Given name estimate shape dof) = record { key = name; body = Input estimate } ∷ []
+row_quantities (Readings name table) = record { key = name; body = Column table 0 } ∷ []
+row_quantities (Correlation name first second coefficient) = []
 row_quantities (Formula name formula) = record { key = name; body = by_names formula } ∷ []
 
 -- those of its rows, joined

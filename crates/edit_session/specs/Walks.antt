@@ -2,7 +2,7 @@
 use Rattle.std.specs.Prelude.{◌≡◌, ℕ, false, None, not, find, is_some, bytes_eq, List, [], ◌∷◌, ◌++◌}
 use Rattle.std.specs.List.{flat_map}
 use Rattle.formula_ast.specs.Trees.{names_of}
-use Rattle.sheet_rows.specs.Rows.{Row, Given, Formula}
+use Rattle.sheet_rows.specs.Rows.{Row, Given, Readings, Correlation, Formula}
 use Rattle.sheet_rows.specs.Regular.{IsRegular}
 use Rattle.value_cache.specs.Quantities.{Quantity, is_there}
 use Rattle.value_cache.specs.Evaluable.{UsesOnly, Keeps}
@@ -15,6 +15,8 @@ Quantities = List (Quantity (List ℕ))
 -- there is an evaluation of each name that the row uses
 abbrev pub KnowsUses : Cells → Row → Type 0
 KnowsUses cells (Given name estimate shape dof) = Unit {0}
+KnowsUses cells (Readings name table) = Unit {0}
+KnowsUses cells (Correlation name first second coefficient) = Unit {0}
 KnowsUses cells (Formula name formula) = find (λ n. not (is_some (kept cells n))) (names_of formula) ≡ None
 
 -- each of these quantities has another name than those before it

@@ -49,6 +49,8 @@ fn add_row<L: Ledger>(
 {
     match row {
         Row::Given { name, estimate, .. } => values.add_input(*name, *estimate, steps),
+        Row::Readings { name, readings } => values.add_column(*name, readings, 0, steps),
+        Row::Correlation { .. } => Ok(()),
         Row::Formula { name, formula } => {
             let used = names(alloc, formula)?;
             values.add_formula(*name, formula, &used, steps)

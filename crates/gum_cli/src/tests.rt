@@ -16,13 +16,15 @@ const FIRST: &[u8; 38] = b"given X 5 std 1\nlet Y = X + 2\nvalue Y\n";
 
 const FIRST_REPLIES: &[u8; 18] = b"ok\nok\nvalue Y 7 7\n";
 
-// Three rows and a mark, and what a dump of them prints.
-const SHEET: &[u8; 53] = b"given X 5 std 1\nlet Y = X + 2\ngiven x 1 exact\nmark M\n";
+// Some rows and a mark, and what a dump of them prints.
+const SHEET: &[u8; 120] =
+    b"given X 5 std 1\nlet Y = X + 2\ngiven x 1 exact\ngiven A 1 std 1\ngiven B 2 exp 1 2\ncorr P A B -0.5\nreadings R 1 2.5\nmark M\n";
 
-const DUMP: &[u8; 49] = b"given X 5 std 1\nlet Y = X + 2\ngiven x 1 exact\nok\n";
+const DUMP: &[u8; 116] =
+    b"given X 5 std 1\nlet Y = X + 2\ngiven x 1 exact\ngiven A 1 std 1\ngiven B 2 exp 1 2\ncorr P A B -0.5\nreadings R 1 2.5\nok\n";
 
 // Lines that are refused on this sheet, and why.
-const REFUSED: [(&str, &str); 38] = [
+const REFUSED: [(&str, &str); 59] = [
     ("let Z = X +", "syntax 12"),
     ("mark X.Y", "syntax 6"),
     ("given Z 5. std 1", "not_number 9"),
@@ -49,7 +51,15 @@ const REFUSED: [(&str, &str); 38] = [
     ("given Z 1 std 1 rel 0", "dof_range"),
     ("given Z 1 std 1 rel 71", "dof_range"),
     ("set given X 1 exp 1 0", "zero_k"),
-    ("readings R 1 2", "not_built"),
+    ("readings Z", "too_few"),
+    ("readings Z 1", "too_few"),
+    ("readings Z 1000000000 1", "wide 1"),
+    ("readings Z 9 1 1e-15", "wide 1"),
+    ("readings Z 1 2 x", "not_number 16"),
+    ("corr Q A 2 0", "syntax 10"),
+    ("corr Q X x 1.01", "r_range"),
+    ("corr Q X x -1.01", "r_range"),
+    ("tol Z upper 1 guard 1", "not_built"),
     ("table T\nA\ndump\nend", "not_built"),
     ("var X", "not_built"),
     ("given X 1 exact", "duplicate X"),
@@ -60,17 +70,30 @@ const REFUSED: [(&str, &str); 38] = [
     ("let Z = Z", "not_earlier Z"),
     ("set let Y = x", "not_earlier x"),
     ("remove X", "in_use Y"),
+    ("let Z = P", "unknown P"),
+    ("corr Q X P 0", "unknown P"),
+    ("corr Q X x 0", "not_correlatable x"),
+    ("corr Q R X 0", "not_correlatable R"),
+    ("corr Q X X 0", "not_correlatable X"),
+    ("corr Q X B 0", "already_correlated B"),
+    ("set corr P X Y 0", "not_correlatable Y"),
+    ("set given A 1 rect 1", "in_use P"),
+    ("set given B 2 std 1 dof 5", "in_use P"),
+    ("set corr X A B 0", "not_earlier A"),
+    ("set readings A 1 2", "in_use P"),
+    ("remove B", "in_use P"),
     ("redo", "nothing_to_redo"),
     ("restore X", "no_mark X"),
     ("at Y value X", "no_mark Y"),
     ("at M value y", "no_such_result y"),
     ("value M", "no_such_result M"),
+    ("value P", "no_such_result P"),
     ("value X.Y", "no_such_result X.Y"),
     ("value X\r\r", "syntax 7"),
 ];
 
-// Inputs of each shape and with degrees of freedom, as they are written and as they are dumped.
-const SHAPES: [(&str, &str); 12] = [
+// Inputs of each shape and with degrees of freedom, readings and correlations, as they are written and as they are dumped.
+const SHAPES: [(&str, &str); 15] = [
     ("given A 1.50 exact", "given A 1.5 exact"),
     ("given B +2 std 1e-1", "given B 2 std 0.1"),
     ("given C 3 exp 0.050 2.0", "given C 3 exp 0.05 2"),
@@ -86,6 +109,9 @@ const SHAPES: [(&str, &str); 12] = [
         "given K 11 std 1 dof 1000000",
     ),
     ("given L 12 rect 1 rel 07", "given L 12 rect 1 rel 7"),
+    ("readings M 1e1 -0.50\t2 # note", "readings M 10 -0.5 2"),
+    ("corr N C E -0.50", "corr N C E -0.5"),
+    ("corr O B D +1", "corr O B D 1"),
 ];
 
 // Takes one byte at a time.
@@ -231,7 +257,7 @@ fn refuses_lines(rt: HostRuntime) -> Result<(), Fail> {
         b"let Y = sin(1)\nlet Y = 2 + 3x\n" => b"refused unknown_function 9\nrefused syntax 14\n",
         b"value  X\nvalue X\r\r\n\x00\xff\n" => b"refused no_such_result X\nrefused syntax 7\nrefused syntax 1\n",
         b"given X 5. std 1\ngiven X 5 std -1\ngiven X\n" => b"refused not_number 9\nrefused negative\nrefused syntax 8\n",
-        b"var X\nvalue T.V\nreadings X 5\nvalue\nvalue X Y\n"
+        b"var X\nvalue T.V\ntol T\nvalue\nvalue X Y\n"
             => b"refused not_built\nrefused no_such_result T.V\nrefused not_built\nrefused syntax 6\nrefused syntax 9\n",
         b"undo\nset table T # end\r\nA # ohm\n \t\nundo\nend # A\n \tend\r\nredo\n"
             => b"refused nothing_to_undo\nrefused not_built\nrefused nothing_to_redo\n",
@@ -245,7 +271,7 @@ fn refuses_lines(rt: HostRuntime) -> Result<(), Fail> {
 #[test]
 fn refusals_leave_the_sheet(rt: HostRuntime) -> Result<(), Fail> {
     let mut script = SHEET.to_vec(rt.alloc())?;
-    let mut wanted = b"ok\nok\nok\nok\n".to_vec(rt.alloc())?;
+    let mut wanted = b"ok\nok\nok\nok\nok\nok\nok\nok\n".to_vec(rt.alloc())?;
     for (line, refusal) in REFUSED {
         script.extend_from_slice(line.as_bytes())?;
         script.extend_from_slice(b"\ndump\n")?;

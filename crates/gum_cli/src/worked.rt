@@ -23,7 +23,7 @@ pub fn worked_refusals()
     ensures unknown_function { out (codes "let Y = sin(1)\n") ≡ codes "refused unknown_function 9\n" }
     ensures syntax { out (codes "given X\nvalue X\r\r\n") ≡ codes "refused syntax 8\nrefused syntax 7\n" }
     ensures not_number { out (codes "given X 5. std 1\n") ≡ codes "refused not_number 9\n" }
-    ensures not_built { out (codes "readings R 1 2\nvar X\n") ≡ codes "refused not_built\nrefused not_built\n" }
+    ensures not_built { out (codes "tol G upper 1 guard 1\nvar X\n") ≡ codes "refused not_built\nrefused not_built\n" }
     ensures block { out (codes "set table T\r\nA # ohm\nundo\n end\r\nundo\n") ≡ codes "refused not_built\nrefused nothing_to_undo\n" }
     ensures open_table { out (codes "undo\ntable T\nA\nundo\n") ≡ codes "refused nothing_to_undo\nrefused open_table\n" }
     ensures early_block { early (codes "undo\ntable T\nA\nend") ≡ codes "refused nothing_to_undo\n" }
@@ -31,6 +31,18 @@ pub fn worked_refusals()
     ensures shapes { out (codes "given X 1 exp 1 0\ngiven X 1 trap 1 1.1\ngiven X 1 norm 2 50\n")
         ≡ codes "refused zero_k\nrefused beta\nrefused level\n" }
     ensures degrees { out (codes "given X 1 exact rel 71\ngiven X 1 norm 2 dof 5\n") ≡ codes "refused dof_range\nrefused syntax 22\n" }
+{}
+
+/// Readings, whose value is their mean, and correlations.
+pub fn worked_inputs()
+    ensures mean { out (codes "readings R 1 1 1 1 1 1 1 1 1 1 2\nlet S = R - 1\nvalue R\nvalue S\n")
+        ≡ codes "ok\nok\nvalue R 1.0909090909090909 1.09090909090909091\nvalue S 0.0909090909090909 0.09090909090909091\n" }
+    ensures readings { out (codes "readings R 1\nreadings R 1000000000 1\nset readings R 1 2\n")
+        ≡ codes "refused too_few\nrefused wide 1\nrefused unknown R\n" }
+    ensures edits { out (codes "let A = A + 1\nlet A = B\ngiven A 1 rect 1\ngiven B 1 std 1\ncorr P A B 0.5\ngiven C 1 std 1\ncorr P B C 0.5\ngiven D 1 std 1\ncorr Q D C 0\nset given C 1 std 1 dof 5\ngiven B 2 exact\nvalue P\n")
+        ≡ codes "refused not_earlier A\nrefused unknown B\nok\nok\nrefused not_correlatable A\nok\nok\nok\nrefused already_correlated C\nrefused in_use P\nrefused duplicate B\nrefused no_such_result P\n" }
+    ensures coefficient { out (codes "given A 1 std 1\ngiven B 1 norm 1 95\ncorr P A B -1.01\ncorr P A A 1\ncorr P A B -1\nremove A\nremove P\nremove A\n")
+        ≡ codes "ok\nok\nrefused r_range\nrefused not_correlatable A\nok\nrefused in_use P\nok\nok\n" }
 {}
 
 /// Commands that are refused, and the order of two reasons that both apply. The sheet stays as it was.

@@ -4,5 +4,9 @@ pub mod PlainBytes
 pub mod SolidTexts
 pub mod PartedWords
 pub mod PrintedGivens
+pub mod OneColumn
+pub mod PrintedReadings
+pub mod PrintedCorrelations
+pub mod ReadNumbers
 pub mod PrintedRows
 pub mod NoMemory

@@ -1,11 +1,12 @@
 -- What a line gives as a row is never out of memory.
-use Rattle.std.proofs.Common.{◌≡◌, ◌≢◌, ℕ, Bool, true, false, cond, List, [], ◌∷◌, ◌+◌, length, drop, Result, Option, None, Some, Ok, Err, IfErr, refl, subst}
+use Rattle.std.proofs.Common.{◌≡◌, ◌≢◌, ℕ, Bool, true, false, cond, nat_lt, List, [], ◌∷◌, ◌+◌, length, drop, Result, Option, None, Some, Ok, Err, IfErr, refl, subst}
 use Rattle.std.specs.Prelude.{codes, bytes_eq, if◌then◌else◌}
+use Rattle.std.specs.List.{position_from}
 use Rattle.decimal18.specs.Bound.{Bound}
 use Rattle.decimal18.specs.Literal.{parsed}
 use Rattle.decimal18.specs.declared.literal.NumFault.{NumFault}
 use Rattle.decimal18.specs.declared.literal.NumFault.TheVariants.{NotNumber as NoLiteral, NumberRange as NoBound}
-use Rattle.formula_ast.specs.Names.{is_plain_name}
+use Rattle.formula_ast.specs.Names.{is_plain_name, is_name}
 use Rattle.formula_ast.specs.Trees.{Tree}
 use Rattle.formula_ast.specs.Reading.{reading_of}
 use Rattle.formula_ast.specs.declared.fault.FormulaFault.{FormulaFault}
@@ -18,14 +19,22 @@ use Rattle.type_b.specs.declared.shape.ShapeFault.TheVariants.{Negative as Negat
 use Rattle.type_b.specs.declared.shape.Shape.{Shape}
 use Rattle.type_b.specs.declared.shape.Shape.TheVariants.{Std, Exp, Norm, Rect, Tri, Trap, Arcsine}
 use Rattle.type_b.specs.declared.shape.Dof.{Dof}
-use Rattle.row_text.specs.Parts.{Read, then_read, any_word, plain_word, number_in, number_word, ended}
+use Rattle.type_a.specs.Tables.{Table, width_of, finest, is_misshapen, has_wide, first_of, refusal, unless, readings_of}
+use Rattle.type_a.specs.WorkedTables.{single}
+use Rattle.type_a.specs.declared.readings.ReadingsFault.{ReadingsFault}
+use Rattle.type_a.specs.declared.readings.ReadingsFault.TheVariants.{TooFew as FewReadings, TooMany as ManyReadings, Shape as OtherWidth, Wide as WideReading}
+use Rattle.sheet_rows.specs.Faults.{readings_fault}
+use Rattle.sheet_rows.specs.Regular.{is_coefficient}
+use Rattle.row_text.specs.Readings.{numbers_of, table_taken, readings_of_words}
+use Rattle.row_text.specs.Correlations.{coefficient_checked, corr_of}
+use Rattle.row_text.specs.Parts.{Read, then_read, any_word, plain_word, name_word, number_of, number_word, ended}
 use Rattle.row_text.specs.Givens.{kind_of, level_of, with_number, with_numbers, with_level, shape_of_kind, shape_named, shape_word, dof_of, rel_of, degrees_word, shape_checked, degrees_checked, given_of}
 use Rattle.row_text.specs.Reading.{is_other_kind, past_blanks, leading_name, name_at, begins_equals, equals_at, formula_fault, formula_in, formula_at, let_of, row_at, row_read}
 use Rattle.row_text.specs.declared.read_shape.ShapeKind.{ShapeKind}
 use Rattle.row_text.specs.declared.read_shape.ShapeKind.TheVariants.{Exact as ExactKind, Std as StdKind, Exp as ExpKind, Norm as NormKind, Rect as RectKind, Tri as TriKind, Trap as TrapKind, Arcsine as ArcsineKind}
 use Rattle.sheet_rows.specs.declared.row.Row.{Row as CodeRow}
 use Rattle.sheet_rows.specs.declared.fault.RowFault.{RowFault}
-use Rattle.sheet_rows.specs.declared.fault.RowFault.TheVariants.{Syntax, NotNumber, NumberRange, UnknownFunction, BadPower, TooDeep, TooManyNodes, Negative, ZeroK, Beta, Level, DofRange, NotBuilt, OutOfMemory}
+use Rattle.sheet_rows.specs.declared.fault.RowFault.TheVariants.{Syntax, NotNumber, NumberRange, UnknownFunction, BadPower, TooDeep, TooManyNodes, Negative, ZeroK, Beta, Level, DofRange, RRange, TooFew, TooMany, Shape as OtherRecord, Wide, NotBuilt, OutOfMemory}
 
 abbrev IsNoMemory : RowFault → Type 0
 IsNoMemory OutOfMemory = ⊥
@@ -41,6 +50,11 @@ IsNoMemory ZeroK = Unit {0}
 IsNoMemory Beta = Unit {0}
 IsNoMemory Level = Unit {0}
 IsNoMemory DofRange = Unit {0}
+IsNoMemory RRange = Unit {0}
+IsNoMemory TooFew = Unit {0}
+IsNoMemory TooMany = Unit {0}
+IsNoMemory (OtherRecord k) = Unit {0}
+IsNoMemory (Wide k) = Unit {0}
 IsNoMemory NotBuilt = Unit {0}
 
 abbrev IfFailed : {A : Type 0} → Read A → Type 0
@@ -59,14 +73,18 @@ plain_failed : (end : ℕ) (ws : List Word) → IfFailed (plain_word end ws)
 plain_failed end [] = tt
 plain_failed end (w ∷ ws) = cond_failed (is_plain_name w.text) _ (Err (Syntax (w.place + 1))) tt tt
 
-number_in_failed : (w : Word) (ws : List Word) (r : Result Bound NumFault) → IfFailed (number_in w ws r)
-number_in_failed w ws (Ok b) = tt
-number_in_failed w ws (Err NoLiteral) = tt
-number_in_failed w ws (Err NoBound) = tt
+name_failed : (end : ℕ) (ws : List Word) → IfFailed (name_word end ws)
+name_failed end [] = tt
+name_failed end (w ∷ ws) = cond_failed (is_name w.text) _ (Err (Syntax (w.place + 1))) tt tt
+
+number_of_failed : (w : Word) (r : Result Bound NumFault) → IfFailed (number_of w r)
+number_of_failed w (Ok b) = tt
+number_of_failed w (Err NoLiteral) = tt
+number_of_failed w (Err NoBound) = tt
 
 number_failed : (end : ℕ) (ws : List Word) → IfFailed (number_word end ws)
 number_failed end [] = tt
-number_failed end (w ∷ ws) = number_in_failed w ws (parsed w.text)
+number_failed end (w ∷ ws) = then_failed (number_of w (parsed w.text)) _ (number_of_failed w (parsed w.text)) (λ b. tt)
 
 word_failed : {A : Type 0} (meaning : List ℕ → A) (end : ℕ) (ws : List Word) → IfFailed (any_word meaning end ws)
 word_failed meaning end [] = tt
@@ -143,6 +161,63 @@ given_takes_none (Err fault) end ws h e =
     let out : fault ≡ OutOfMemory = cc in
     subst IfFailed (subst (λ f. given_of end ws ≡ Err f) out h) (given_failed end ws)
 
+-- the reading of a correlation takes none either
+corr_failed : (end : ℕ) (ws : List Word) → IfFailed (corr_of end ws)
+corr_failed end ws =
+    then_failed (plain_word end ws) _ (plain_failed end ws) (λ name.
+    then_failed (name_word end name.rest) _ (name_failed end name.rest) (λ first.
+    then_failed (name_word end first.rest) _ (name_failed end first.rest) (λ second.
+    then_failed (number_word end second.rest) _ (number_failed end second.rest) (λ number.
+    then_failed (ended number.rest) _ (ended_failed number.rest) (λ done.
+    then_failed (coefficient_checked number.item) _ (cond_failed (is_coefficient number.item) (Ok number.item) (Err RRange) tt tt) (λ r. tt))))))
+
+pub corr_takes_none : (r : Result CodeRow RowFault) (end : ℕ) (ws : List Word) → IfErr r (λ fault. corr_of end ws ≡ Err fault)
+    → r ≢ Err OutOfMemory
+corr_takes_none (Ok row) end ws h e = cc
+corr_takes_none (Err fault) end ws h e =
+    let out : fault ≡ OutOfMemory = cc in
+    subst IfFailed (subst (λ f. corr_of end ws ≡ Err f) out h) (corr_failed end ws)
+
+-- ---- readings
+numbers_failed : (ws : List Word) → IfFailed (numbers_of ws)
+numbers_failed [] = tt
+numbers_failed (w ∷ ws) =
+    then_failed (number_of w (parsed w.text)) _ (number_of_failed w (parsed w.text)) (λ number.
+    then_failed (numbers_of ws) _ (numbers_failed ws) (λ numbers. tt))
+
+-- the refusal of a table is not out of memory
+abbrev IsNoTableMemory : Option ReadingsFault → Type 0
+IsNoTableMemory None = Unit {0}
+IsNoTableMemory (Some fault) = IsNoMemory (readings_fault fault)
+
+first_no_memory : (fault : ℕ → ReadingsFault) (o : Option ℕ) (later : Option ReadingsFault) → ((k : ℕ) → IsNoMemory (readings_fault (fault k))) →
+    IsNoTableMemory later → IsNoTableMemory (first_of fault o later)
+first_no_memory fault None later h k = k
+first_no_memory fault (Some place) later h k = h place
+
+cond_no_memory : (t : Bool) (fault : ReadingsFault) (later : Option ReadingsFault) → IsNoMemory (readings_fault fault) → IsNoTableMemory later →
+    IsNoTableMemory (cond t (Some fault) later)
+cond_no_memory true fault later h k = h
+cond_no_memory false fault later h k = k
+
+refusal_no_memory : (t : Table) → IsNoTableMemory (refusal t)
+unfolding refusal
+refusal_no_memory t =
+    first_no_memory OtherWidth (position_from (is_misshapen (width_of t)) 1 t) _ (λ k. tt)
+    (cond_no_memory (nat_lt (length t) 2) FewReadings _ tt
+    (cond_no_memory (nat_lt 1000 (length t)) ManyReadings _ tt
+    (first_no_memory WideReading (position_from (has_wide (finest t)) 1 t) None (λ k. tt) tt)))
+
+unless_failed : (o : Option ReadingsFault) (t : Table) → IsNoTableMemory o → IfFailed (table_taken (unless o t))
+unless_failed None t h = tt
+unless_failed (Some fault) t h = h
+
+readings_failed : (end : ℕ) (ws : List Word) → IfFailed (readings_of_words end ws)
+readings_failed end ws =
+    then_failed (plain_word end ws) _ (plain_failed end ws) (λ name.
+    then_failed (numbers_of name.rest) _ (numbers_failed name.rest) (λ numbers.
+    then_failed (table_taken (readings_of (single numbers))) _ (unless_failed (refusal (single numbers)) (single numbers) (refusal_no_memory (single numbers))) (λ table. tt)))
+
 -- ---- formulas
 fault_failed : (at : ℕ) (fault : FormulaFault) → fault ≢ FormulaMemory → IsNoMemory (formula_fault at fault)
 fault_failed at (FormulaSyntax k) h = tt
@@ -171,8 +246,10 @@ row_failed : (line : List ℕ) (ws : List Word) → IfFailed (row_at line ws)
 row_failed line [] = tt
 row_failed line (w ∷ ws) =
     cond_failed (bytes_eq w.text (codes "given")) _ _ (given_failed (length line) ws)
+    (cond_failed (bytes_eq w.text (codes "readings")) _ _ (readings_failed (length line) ws)
+    (cond_failed (bytes_eq w.text (codes "corr")) _ _ (corr_failed (length line) ws)
     (cond_failed (bytes_eq w.text (codes "let")) (let_of line (w.place + length w.text)) (if is_other_kind w.text then Err NotBuilt else Err (Syntax (w.place + 1)))
-    (let_failed line (w.place + length w.text)) (cond_failed (is_other_kind w.text) (Err NotBuilt) (Err (Syntax (w.place + 1))) tt tt))
+    (let_failed line (w.place + length w.text)) (cond_failed (is_other_kind w.text) (Err NotBuilt) (Err (Syntax (w.place + 1))) tt tt))))
 
 pub row_never : (line : List ℕ) (ws : List Word) → row_at line ws ≢ Err OutOfMemory
 row_never line ws h = subst IfFailed h (row_failed line ws)

@@ -1,17 +1,18 @@
 -- The bytes of names and numbers: none is a blank, `#` or `=`.
 use Rattle.std.proofs.lemmas.Bool.{and_parts, and_from}
-use Rattle.std.proofs.Common.{◌≡◌, ℕ, zero, suc, ◌+◌, ◌/◌, ◌%◌, ◌^◌, ◌<◌, ◌&&◌, Bool, true, List, [], ◌∷◌, ◌++◌, length, refl, ◌∙◌, arith, length-append}
+use Rattle.std.proofs.Common.{◌≡◌, ℕ, zero, suc, ◌+◌, ◌/◌, ◌%◌, ◌^◌, ◌<◌, ◌==◌, ◌&&◌, Bool, true, List, [], ◌∷◌, ◌++◌, length, refl, ◌∙◌, arith, length-append}
 use Rattle.std.specs.Prelude.{ℤ, pos, negsuc, unsigned_abs, decimal}
-use Rattle.std.specs.List.{list_all}
+use Rattle.std.specs.List.{list_all, slice_split, join_with_byte}
 use Rattle.std.specs.Char.{is_ascii_digit}
 use Rattle.std.proofs.Math.Nat.{div-le_self}
 use Rattle.std.proofs.lemmas.Bool.Decides.{nat_tests}
 use Rattle.std.proofs.lemmas.Fmt.{digits_decimal, decimal_nonempty}
 use Rattle.std.proofs.lemmas.List.Folds.{list_all-append}
+use Rattle.std.proofs.lemmas.List.Splits.{join_with_byte-slice_split}
 use Rattle.decimal18.specs.Bound.{Bound, IsBound}
 use Rattle.decimal18.specs.Text.{last_digits, sign_of, after_point, text_of}
 use Rattle.decimal18.proofs.LiteralDigits.{numerals}
-use Rattle.formula_ast.specs.Names.{begins_name, goes_on_name, is_plain_name}
+use Rattle.formula_ast.specs.Names.{begins_name, goes_on_name, is_plain_name, are_name_parts, is_name}
 use Rattle.formula_ast.specs.Tokens.{goes_on_run}
 use Rattle.formula_ast.specs.Printing.{exponent_text}
 use Rattle.line_text.specs.Words.{is_in_word, is_no_hash}
@@ -68,6 +69,20 @@ names_plain (byte ∷ bytes) h =
 pub name_some : (text : List ℕ) → is_plain_name text ≡ true → 0 < length text
 name_some [] h = absurd (cc)
 name_some (byte ∷ bytes) h = omega arith
+
+-- a plain name, or two with a point between them
+parts_plain : (parts : List (List ℕ)) → are_name_parts parts ≡ true → ArePlain (join_with_byte 46 parts)
+parts_plain [] h = absurd (cc)
+parts_plain (plain ∷ []) h = names_plain plain h
+parts_plain (table ∷ column ∷ []) h =
+    let both = and_parts (is_plain_name table) (is_plain_name column) h in
+    plain_append table (46 ∷ column) (names_plain table both.0) (and_from (is_plain 46) (list_all is_plain column) refl (names_plain column both.1))
+parts_plain (table ∷ column ∷ other ∷ others) h = absurd (cc)
+
+pub all_names_plain : (text : List ℕ) → is_name text ≡ true → ArePlain text
+all_names_plain text h =
+    let plain = parts_plain (slice_split (λ byte. byte == 46) text) h in
+    rw (join_with_byte-slice_split 46 text) at plain
 
 -- ---- numbers
 digit_plain : (byte : ℕ) → is_ascii_digit byte ≡ true → is_plain byte ≡ true

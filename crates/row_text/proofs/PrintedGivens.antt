@@ -136,7 +136,7 @@ rel_again percent h =
     ∙ ap (λ t. cond t (Some (Rel percent)) None) h
 
 -- ---- the words are words
-number_is_word : (a : Bound) → IsDecimal a → IsWord (text_of a)
+pub number_is_word : (a : Bound) → IsDecimal a → IsWord (text_of a)
 number_is_word a h = record { plain = text_plain a h.bound; some = text_some a h.bound }
 
 whole_is_word : (n : ℕ) → n < 2 ^ 64 → IsWord (decimal n)

@@ -1,5 +1,5 @@
 -- What lines give are regular rows.
-use Rattle.std.proofs.Common.{◌≡◌, ℕ, ◌+◌, Bool, true, false, cond, List, [], ◌∷◌, length, drop, refl, subst, arith, Option, None, Some, Result, Ok, Err, IfOk}
+use Rattle.std.proofs.Common.{◌≡◌, ℕ, ◌+◌, ◌≤◌, Bool, true, false, cond, List, [], ◌∷◌, length, drop, refl, subst, arith, Option, None, Some, Result, Ok, Err, IfOk}
 use Rattle.std.specs.Prelude.{codes, bytes_eq, option_map, IfSome, if◌then◌else◌}
 use Rattle.std.proofs.lemmas.Bool.Decides.{nat_tests}
 use Rattle.decimal18.specs.Bound.{Bound, canonical, IsCanonical, IsDecimal}
@@ -8,7 +8,7 @@ use Rattle.decimal18.specs.declared.literal.NumFault.{NumFault}
 use Rattle.decimal18.specs.declared.literal.NumFault.TheVariants.{NotNumber as NoLiteral, NumberRange as NoBound}
 use Rattle.decimal18.proofs.Canonical.{IsReduced-canonical}
 use Rattle.decimal18.proofs.LiteralRead.{ok_of}
-use Rattle.formula_ast.specs.Names.{is_plain_name}
+use Rattle.formula_ast.specs.Names.{is_plain_name, is_name}
 use Rattle.formula_ast.specs.Trees.{Tree}
 use Rattle.formula_ast.specs.Printing.{print}
 use Rattle.formula_ast.specs.Reading.{reading_of}
@@ -21,14 +21,20 @@ use Rattle.type_b.specs.declared.shape.Shape.TheVariants.{Std, Exp, Norm, Rect, 
 use Rattle.type_b.specs.declared.shape.Dof.{Dof}
 use Rattle.type_b.specs.declared.shape.Dof.TheVariants.{Inf, Whole, Rel}
 use Rattle.type_b.specs.declared.shape.ShapeFault.{ShapeFault}
-use Rattle.sheet_rows.specs.Rows.{Row}
-use Rattle.row_text.specs.Parts.{Read, then_read, Parsed, any_word, plain_word, number_in, number_word, ended}
+use Rattle.sheet_rows.specs.Rows.{Row, Readings}
+use Rattle.type_a.specs.Tables.{Table, width_of, refusal, unless, readings_of}
+use Rattle.type_a.specs.WorkedTables.{single}
+use Rattle.type_a.specs.declared.readings.ReadingsFault.{ReadingsFault}
+use Rattle.type_a.proofs.Accepted.{at_least_two}
+use Rattle.row_text.specs.Readings.{numbers_of, table_taken, readings_of_words}
+use Rattle.row_text.specs.Correlations.{coefficient_checked, corr_of}
+use Rattle.row_text.specs.Parts.{Read, then_read, Parsed, any_word, plain_word, name_word, number_of, number_word, ended}
 use Rattle.row_text.specs.Givens.{kind_of, level_of, with_number, with_numbers, with_level, shape_of_kind, shape_named, shape_word, whole_of, allowed, dof_of, rel_of, degrees_word, shape_checked, degrees_checked, given_of}
 use Rattle.row_text.specs.Reading.{is_other_kind, past_blanks, leading_name, name_at, equals_at, formula_in, formula_at, let_of, row_at, row_read}
 use Rattle.row_text.specs.declared.read_shape.ShapeKind.{ShapeKind}
 use Rattle.row_text.specs.declared.read_shape.ShapeKind.TheVariants.{Exact as ExactKind, Std as StdKind, Exp as ExpKind, Norm as NormKind, Rect as RectKind, Tri as TriKind, Trap as TrapKind, Arcsine as ArcsineKind}
-use Rattle.sheet_rows.specs.Regular.{IsRegular}
-use Rattle.sheet_rows.specs.declared.fault.RowFault.TheVariants.{Syntax, NotBuilt}
+use Rattle.sheet_rows.specs.Regular.{IsRegular, AreDecimals, AllAreDecimals, is_coefficient}
+use Rattle.sheet_rows.specs.declared.fault.RowFault.TheVariants.{Syntax, RRange, NotBuilt}
 
 -- ---- numbers
 bound_decimal : (c : Bound) (t : Bool) → is_bound c ≡ t → IsCanonical c → (b : Bound) → cond t (Some c) None ≡ Some b → IsDecimal b
@@ -58,6 +64,9 @@ then_ok : {A B : Type 0} (P : A → Type 0) (Q : B → Type 0) (r : Read A) (nex
 then_ok P Q (Err fault) next h k = tt
 then_ok P Q (Ok x) next h k = k x h
 
+ok_is : {A : Type 0} (P : A → Type 0) (r : Read A) (x : A) → r ≡ Ok x → IfOk r P → P x
+ok_is P r x e h = rw e at h
+
 pub any_ok : {A E : Type 0} (r : Result A E) → IfOk r (λ x. Unit {0})
 any_ok (Ok x) = tt
 any_ok (Err fault) = tt
@@ -68,15 +77,23 @@ plain_ok end (w ∷ ws) =
     cond_ok (λ x. is_plain_name x.item ≡ true) (is_plain_name w.text) (Ok (record { item = w.text; rest = ws })) (Err (Syntax (w.place + 1)))
     (λ plain. plain) tt
 
-literal_ok : (w : Word) (ws : List Word) (r : Result Bound NumFault) → ((b : Bound) → r ≡ Ok b → IsDecimal b) →
-    IfOk (number_in w ws r) (λ x. IsDecimal x.item)
-literal_ok w ws (Ok b) h = h b refl
-literal_ok w ws (Err NoLiteral) h = tt
-literal_ok w ws (Err NoBound) h = tt
+name_ok : (end : ℕ) (ws : List Word) → IfOk (name_word end ws) (λ x. is_name x.item ≡ true)
+name_ok end [] = tt
+name_ok end (w ∷ ws) =
+    cond_ok (λ x. is_name x.item ≡ true) (is_name w.text) (Ok (record { item = w.text; rest = ws })) (Err (Syntax (w.place + 1)))
+    (λ named. named) tt
+
+literal_ok : (w : Word) (r : Result Bound NumFault) → ((b : Bound) → r ≡ Ok b → IsDecimal b) → IfOk (number_of w r) IsDecimal
+literal_ok w (Ok b) h = h b refl
+literal_ok w (Err NoLiteral) h = tt
+literal_ok w (Err NoBound) h = tt
+
+of_word : (w : Word) → IfOk (number_of w (parsed w.text)) IsDecimal
+of_word w = literal_ok w (parsed w.text) (λ b h. parsed_decimal w.text b h)
 
 number_ok : (end : ℕ) (ws : List Word) → IfOk (number_word end ws) (λ x. IsDecimal x.item)
 number_ok end [] = tt
-number_ok end (w ∷ ws) = literal_ok w ws (parsed w.text) (λ b h. parsed_decimal w.text b h)
+number_ok end (w ∷ ws) = then_ok IsDecimal (λ x. IsDecimal x.item) (number_of w (parsed w.text)) _ (of_word w) (λ b d. d)
 
 checked_ok : (r : Result Unit ShapeFault) → IfOk (shape_checked r) (λ done. r ≡ Ok (record {}))
 checked_ok (Ok done) = refl
@@ -170,6 +187,71 @@ given_ok end ws =
     then_ok IsDegrees IsRegular (degrees_checked dof.item) _ (stated_ok dof.item allows) (λ degrees are.
     (plain, decimal, has, states, are))))))))
 
+-- ---- readings
+numbers_ok : (ws : List Word) → IfOk (numbers_of ws) AreDecimals
+numbers_ok [] = tt
+numbers_ok (w ∷ ws) =
+    then_ok IsDecimal AreDecimals (number_of w (parsed w.text)) _ (of_word w) (λ b d.
+    then_ok AreDecimals AreDecimals (numbers_of ws) _ (numbers_ok ws) (λ bs ds. (d, ds)))
+
+single_decimals : (bs : List Bound) → AreDecimals bs → AllAreDecimals (single bs)
+single_decimals [] h = tt
+single_decimals (b ∷ bs) h = ((h.0, tt), single_decimals bs h.1)
+
+single_width : (bs : List Bound) → refusal (single bs) ≡ None → width_of (single bs) ≡ 1
+single_width [] h = let some : 2 ≤ 0 = at_least_two [] h in absurd (omega (arith, some))
+single_width (b ∷ bs) h = refl
+
+IsTable : Table → Table → Type 0
+IsTable t u = (t ≡ u) × (refusal t ≡ None)
+
+taken_ok : (o : Option ReadingsFault) (t : Table) → refusal t ≡ o → IfOk (table_taken (unless o t)) (IsTable t)
+unfolding IsTable
+taken_ok None t e = (refl, e)
+taken_ok (Some fault) t e = tt
+
+readings_row : (name : List ℕ) (bs : List Bound) (u : Table) → is_plain_name name ≡ true → AreDecimals bs → IsTable (single bs) u →
+    IsRegular (Readings name u)
+unfolding IsTable
+readings_row name bs u plain decimals taken =
+    subst (λ t. IsRegular (Readings name t)) taken.0
+    (plain, single_decimals bs decimals, single_width bs taken.1, taken.1)
+
+readings_ok : (end : ℕ) (ws : List Word) → IfOk (readings_of_words end ws) IsRegular
+readings_ok end ws =
+    then_ok (λ x. is_plain_name x.item ≡ true) IsRegular (plain_word end ws) _ (plain_ok end ws) (λ name plain.
+    then_ok AreDecimals IsRegular (numbers_of name.rest) _ (numbers_ok name.rest) (λ numbers decimals.
+    then_ok (IsTable (single numbers)) IsRegular (table_taken (readings_of (single numbers))) _ (taken_ok (refusal (single numbers)) (single numbers) refl)
+    (λ table taken. readings_row name.item numbers table plain decimals taken)))
+
+-- what the code reads
+table_is : (o : Option ReadingsFault) (t u : Table) → refusal t ≡ o → unless o t ≡ Ok u → IsTable t u
+unfolding IsTable
+table_is None t u e h = let same : t ≡ u = cc in (same, e)
+table_is (Some fault) t u e h = absurd (cc)
+
+pub regular_readings : (name : List ℕ) (ws : List Word) (bs : List Bound) (t u : Table) → is_plain_name name ≡ true → numbers_of ws ≡ Ok bs →
+    t ≡ single bs → readings_of t ≡ Ok u → IsRegular (Readings name u)
+regular_readings name ws bs t u plain numbers same taken =
+    readings_row name bs u plain (ok_is AreDecimals (numbers_of ws) bs numbers (numbers_ok ws))
+    (subst (λ v. IsTable v u) same (table_is (refusal t) t u refl taken))
+
+-- ---- correlations
+coefficient_ok : (b : Bound) → IsDecimal b → IfOk (coefficient_checked b) (λ r. IsDecimal r × (is_coefficient r ≡ true))
+coefficient_ok b d =
+    cond_ok (λ r. IsDecimal r × (is_coefficient r ≡ true)) (is_coefficient b) (Ok b) (Err RRange) (λ within. (d, within)) tt
+
+corr_ok : (end : ℕ) (ws : List Word) → IfOk (corr_of end ws) IsRegular
+corr_ok end ws =
+    then_ok (λ x. is_plain_name x.item ≡ true) IsRegular (plain_word end ws) _ (plain_ok end ws) (λ name plain.
+    then_ok (λ x. is_name x.item ≡ true) IsRegular (name_word end name.rest) _ (name_ok end name.rest) (λ first one.
+    then_ok (λ x. is_name x.item ≡ true) IsRegular (name_word end first.rest) _ (name_ok end first.rest) (λ second other.
+    then_ok (λ x. IsDecimal x.item) IsRegular (number_word end second.rest) _ (number_ok end second.rest) (λ number decimal.
+    then_ok (λ x. Unit {0}) IsRegular (ended number.rest) _ (any_ok (ended number.rest)) (λ done u.
+    then_ok (λ r. IsDecimal r × (is_coefficient r ≡ true)) IsRegular (coefficient_checked number.item) _ (coefficient_ok number.item decimal) (λ r has.
+    (plain, one, other, has.0, has.1)))))))
+
+-- ---- formulas
 -- the printed formula is read as the formula again
 abbrev IsReadAgain : Tree → Type 0
 IsReadAgain f = reading_of (print f) ≡ Ok f
@@ -193,15 +275,14 @@ pub row_regular : (line : List ℕ) (ws : List Word) → IfOk (row_at line ws) I
 row_regular line [] = tt
 row_regular line (w ∷ ws) =
     cond_ok IsRegular (bytes_eq w.text (codes "given")) (given_of (length line) ws) _ (λ e. given_ok (length line) ws)
+    (cond_ok IsRegular (bytes_eq w.text (codes "readings")) (readings_of_words (length line) ws) _ (λ e. readings_ok (length line) ws)
+    (cond_ok IsRegular (bytes_eq w.text (codes "corr")) (corr_of (length line) ws) _ (λ e. corr_ok (length line) ws)
     (cond_ok IsRegular (bytes_eq w.text (codes "let")) (let_of line (w.place + length w.text)) (if is_other_kind w.text then Err NotBuilt else Err (Syntax (w.place + 1)))
-    (λ e. let_ok line (w.place + length w.text)) (cond_ok IsRegular (is_other_kind w.text) (Err NotBuilt) (Err (Syntax (w.place + 1))) (λ e. tt) tt))
+    (λ e. let_ok line (w.place + length w.text)) (cond_ok IsRegular (is_other_kind w.text) (Err NotBuilt) (Err (Syntax (w.place + 1))) (λ e. tt) tt))))
 
 pub read_regular : (line : List ℕ) (from : ℕ) → IfOk (row_read line from) IsRegular
 unfolding row_read
 read_regular line from = row_regular (written_part line) (words_from (written_part line) from)
 
-ok_is : (r : Read Row) (row : Row) → r ≡ Ok row → IfOk r IsRegular → IsRegular row
-ok_is r row e h = rw e at h
-
 pub what_is_read_is_regular : (line : List ℕ) (from : ℕ) (row : Row) → row_read line from ≡ Ok row → IsRegular row
-what_is_read_is_regular line from row h = ok_is (row_read line from) row h (read_regular line from)
+what_is_read_is_regular line from row h = ok_is IsRegular (row_read line from) row h (read_regular line from)

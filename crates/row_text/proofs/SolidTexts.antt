@@ -34,7 +34,7 @@ symbol_no_hash Minus = refl
 symbol_no_hash Times = refl
 symbol_no_hash Over = refl
 
-named_some : (text : List ℕ) → is_name text ≡ true → 0 < length text
+pub named_some : (text : List ℕ) → is_name text ≡ true → 0 < length text
 named_some [] h = let no : false ≡ true = h in absurd (cc)
 named_some (byte ∷ bytes) h = omega arith
 

@@ -1,5 +1,7 @@
 -- The definitions, in the order in which to read them.
 pub mod Parts
 pub mod Givens
+pub mod Readings
+pub mod Correlations
 pub mod Reading
 pub mod Printing

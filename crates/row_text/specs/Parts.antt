@@ -5,7 +5,7 @@ use Rattle.decimal18.specs.Bound.{Bound}
 use Rattle.decimal18.specs.Literal.{parsed}
 use Rattle.decimal18.specs.declared.literal.NumFault.{NumFault}
 use Rattle.decimal18.specs.declared.literal.NumFault.TheVariants.{NotNumber as NoLiteral, NumberRange as NoBound}
-use Rattle.formula_ast.specs.Names.{is_plain_name}
+use Rattle.formula_ast.specs.Names.{is_plain_name, is_name}
 use Rattle.line_text.specs.Words.{Word}
 use Rattle.sheet_rows.specs.declared.fault.RowFault.{RowFault}
 use Rattle.sheet_rows.specs.declared.fault.RowFault.TheVariants.{Syntax, NotNumber, NumberRange}
@@ -33,11 +33,19 @@ abbrev pub plain_word : ℕ → List Word → Read (Parsed (List ℕ))
 plain_word end [] = Err (Syntax (end + 1))
 plain_word end (w ∷ ws) = if is_plain_name w.text then Ok (record { item = w.text; rest = ws }) else Err (Syntax (w.place + 1))
 
+-- a name, which may be that of a table's column
+abbrev pub name_word : ℕ → List Word → Read (Parsed (List ℕ))
+name_word end [] = Err (Syntax (end + 1))
+name_word end (w ∷ ws) = if is_name w.text then Ok (record { item = w.text; rest = ws }) else Err (Syntax (w.place + 1))
+
 -- a number
+abbrev pub number_of : Word → Result Bound NumFault → Read Bound
+number_of w (Ok b) = Ok b
+number_of w (Err NoLiteral) = Err (NotNumber (w.place + 1))
+number_of w (Err NoBound) = Err (NumberRange (w.place + 1))
+
 abbrev pub number_in : Word → List Word → Result Bound NumFault → Read (Parsed Bound)
-number_in w ws (Ok b) = Ok (record { item = b; rest = ws })
-number_in w ws (Err NoLiteral) = Err (NotNumber (w.place + 1))
-number_in w ws (Err NoBound) = Err (NumberRange (w.place + 1))
+number_in w ws r = then_read (number_of w r) (λ b. Ok (record { item = b; rest = ws }))
 
 abbrev pub number_word : ℕ → List Word → Read (Parsed Bound)
 number_word end [] = Err (Syntax (end + 1))

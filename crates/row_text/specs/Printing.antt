@@ -1,12 +1,14 @@
 -- The printed text of a row: single blanks between its words, and numbers in their own form.
-use Rattle.std.specs.Prelude.{ℕ, List, [], ◌++◌, codes, decimal}
+use Rattle.std.specs.Prelude.{ℕ, List, [], ◌∷◌, ◌++◌, map, get_or, pos, codes, decimal}
+use Rattle.decimal18.specs.Bound.{Bound, scaled}
 use Rattle.decimal18.specs.Text.{text_of}
 use Rattle.formula_ast.specs.Printing.{print}
 use Rattle.type_b.specs.declared.shape.Shape.{Shape}
 use Rattle.type_b.specs.declared.shape.Shape.TheVariants.{Exact, Std, Exp, Norm, Rect, Tri, Trap, Arcsine}
 use Rattle.type_b.specs.declared.shape.Dof.{Dof}
 use Rattle.type_b.specs.declared.shape.Dof.TheVariants.{Inf, Whole, Rel}
-use Rattle.sheet_rows.specs.Rows.{Row, Given, Formula}
+use Rattle.type_a.specs.Tables.{Table}
+use Rattle.sheet_rows.specs.Rows.{Row, Given, Readings, Correlation, Formula}
 
 abbrev pub shape_text : Shape → List ℕ
 shape_text Exact = codes "exact"
@@ -24,7 +26,19 @@ degrees_text Inf = []
 degrees_text (Whole n) = codes " dof " ++ decimal n
 degrees_text (Rel percent) = codes " rel " ++ decimal percent
 
+-- the readings of a table of one column
+abbrev pub one_column : Table → List Bound
+one_column t = map (λ r. get_or r 0 (scaled (pos 0) 0)) t
+
+-- the numbers, each after a blank
+abbrev pub numbers_text : List Bound → List ℕ
+numbers_text [] = []
+numbers_text (b ∷ bs) = codes " " ++ text_of b ++ numbers_text bs
+
 abbrev pub printed : Row → List ℕ
 printed (Given name estimate shape dof) =
     codes "given " ++ name ++ codes " " ++ text_of estimate ++ codes " " ++ shape_text shape ++ degrees_text dof
+printed (Readings name table) = codes "readings " ++ name ++ numbers_text (one_column table)
+printed (Correlation name first second coefficient) =
+    codes "corr " ++ name ++ codes " " ++ first ++ codes " " ++ second ++ codes " " ++ text_of coefficient
 printed (Formula name f) = codes "let " ++ name ++ codes " = " ++ print f

@@ -15,13 +15,14 @@ use Rattle.line_text.specs.Words.{Word, words_from, written_part}
 use Rattle.sheet_rows.specs.Rows.{Row, Formula}
 use Rattle.row_text.specs.Parts.{Read, then_read}
 use Rattle.row_text.specs.Givens.{given_of}
+use Rattle.row_text.specs.Readings.{readings_of_words}
+use Rattle.row_text.specs.Correlations.{corr_of}
 use Rattle.sheet_rows.specs.declared.fault.RowFault.{RowFault}
 use Rattle.sheet_rows.specs.declared.fault.RowFault.TheVariants.{Syntax, NotNumber, NumberRange, UnknownFunction, BadPower, TooDeep, TooManyNodes, NotBuilt, OutOfMemory}
 
 -- ---- kinds of rows of the language that this version does not have
 abbrev pub is_other_kind : List ℕ → Bool
-is_other_kind text =
-    bytes_eq text (codes "readings") || (bytes_eq text (codes "table") || (bytes_eq text (codes "corr") || bytes_eq text (codes "tol")))
+is_other_kind text = bytes_eq text (codes "table") || bytes_eq text (codes "tol")
 
 -- ---- formulas: the blanks round `=` may be missing
 -- what was read, and the place after it
@@ -88,13 +89,15 @@ abbrev pub row_at : List ℕ → List Word → Read Row
 row_at line [] = Err (Syntax (length line + 1))
 row_at line (w ∷ ws) =
     if bytes_eq w.text (codes "given") then given_of (length line) ws else
+    if bytes_eq w.text (codes "readings") then readings_of_words (length line) ws else
+    if bytes_eq w.text (codes "corr") then corr_of (length line) ws else
     if bytes_eq w.text (codes "let") then let_of line (w.place + length w.text) else
     if is_other_kind w.text then Err NotBuilt else Err (Syntax (w.place + 1))
 
--- whether these words are to give a formula row: no other row's reading takes memory
-abbrev pub begin_formula : List Word → Bool
-begin_formula [] = false
-begin_formula (w ∷ ws) = bytes_eq w.text (codes "let")
+-- whether these words are to give a row by readings or a formula row: no other row's reading takes memory
+abbrev pub take_memory : List Word → Bool
+take_memory [] = false
+take_memory (w ∷ ws) = bytes_eq w.text (codes "readings") || bytes_eq w.text (codes "let")
 
 abbrev pub row_from : List ℕ → ℕ → Read Row
 row_from line from = row_at line (words_from line from)

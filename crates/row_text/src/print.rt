@@ -1,8 +1,9 @@
 ghost use Rattle.std.specs.Prelude.{◌≡◌, ◌++◌, decimal, IfOk, OnOk};
 ghost use Rattle.decimal18.specs.Text.{text_of};
+ghost use Rattle.type_a.specs.Tables.{width_of};
 ghost use Rattle.sheet_rows.specs.Rows.{row_of};
 ghost use Rattle.sheet_rows.specs.Regular.{IsRegular};
-ghost use Rattle.row_text.specs.Printing.{shape_text, degrees_text, printed};
+ghost use Rattle.row_text.specs.Printing.{shape_text, degrees_text, one_column, numbers_text, printed};
 
 use decimal18::Dec;
 use formula_ast::print_formula;
@@ -10,6 +11,7 @@ use itoa::Buffer;
 use line_text::{Bytes, OutOfMemory};
 use sheet_rows::Row;
 use std::alloc::Global;
+use type_a::Readings;
 use type_b::{Dof, Shape};
 
 /// Puts the words and the number after them at the end.
@@ -64,8 +66,20 @@ fn put_degrees(out: &mut Bytes, dof: &Dof) -> Result<(), OutOfMemory>
     }
 }
 
+/// Puts the readings of a table of one column at the end, each after a blank.
+fn put_readings(alloc: Global, out: &mut Bytes, readings: &Readings) -> Result<(), OutOfMemory>
+    requires { width_of readings.now ≡ 1 }
+    ensures { OnOk result (out.new ≡ out.old ++ numbers_text (one_column readings.now)) }
+{
+    for row in 0..readings.count() {
+        put_number(alloc, out, b" ", &readings.value_at(row, 0))?;
+    }
+    Ok(())
+}
+
 /// Puts the text of the row at the end.
 fn put_row(alloc: Global, out: &mut Bytes, row: &Row) -> Result<(), OutOfMemory>
+    requires { IsRegular (row_of row.now) }
     ensures { OnOk result (out.new ≡ out.old ++ printed (row_of row.now)) }
 {
     match row {
@@ -83,6 +97,25 @@ fn put_row(alloc: Global, out: &mut Bytes, row: &Row) -> Result<(), OutOfMemory>
             put_shape(alloc, out, shape)?;
             put_degrees(out, dof)
         }
+        Row::Readings { name, readings } => {
+            out.extend_from_slice(b"readings ")?;
+            out.extend_from_slice(name.as_bytes())?;
+            put_readings(alloc, out, readings)
+        }
+        Row::Correlation {
+            name,
+            first,
+            second,
+            coefficient,
+        } => {
+            out.extend_from_slice(b"corr ")?;
+            out.extend_from_slice(name.as_bytes())?;
+            out.push(b' ')?;
+            out.extend_from_slice(first.as_bytes())?;
+            out.push(b' ')?;
+            out.extend_from_slice(second.as_bytes())?;
+            put_number(alloc, out, b" ", coefficient)
+        }
         Row::Formula { name, formula } => {
             out.extend_from_slice(b"let ")?;
             out.extend_from_slice(name.as_bytes())?;
@@ -93,7 +126,8 @@ fn put_row(alloc: Global, out: &mut Bytes, row: &Row) -> Result<(), OutOfMemory>
 }
 
 /// The text of the row: `given NAME ESTIMATE SHAPE`, with ` dof N` or ` rel PERCENT` where the degrees of freedom are
-/// not infinitely many, or `let NAME = FORMULA`.
+/// not infinitely many, `readings NAME NUMBER NUMBER ..`, `corr NAME FIRST SECOND COEFFICIENT`, or
+/// `let NAME = FORMULA`.
 ///
 /// # Errors
 ///

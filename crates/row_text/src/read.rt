@@ -3,24 +3,26 @@ ghost use Rattle.line_text.specs.Memory.{GivesBy};
 ghost use Rattle.line_text.specs.Words.{word_of, words_left, words_from, written_part};
 ghost use Rattle.sheet_rows.specs.Rows.{row_of};
 ghost use Rattle.sheet_rows.specs.Regular.{IsRegular};
-ghost use Rattle.row_text.specs.Reading.{is_other_kind, begin_formula, row_at, row_read};
+ghost use Rattle.row_text.specs.Reading.{is_other_kind, take_memory, row_at, row_read};
 
+use crate::read_corr::read_corr;
 use crate::read_given::read_given;
 use crate::read_let::read_let;
+use crate::read_readings::read_readings;
 use line_text::{Word, Words, written_part};
 use sheet_rows::{Row, RowFault};
 use std::alloc::Global;
 
 const GIVEN: &[u8] = b"given";
 
+const READINGS: &[u8] = b"readings";
+
+const CORR: &[u8] = b"corr";
+
 const LET: &[u8] = b"let";
 
 // The kinds of rows that this version does not have.
-const READINGS: &[u8] = b"readings";
-
 const TABLE: &[u8] = b"table";
-
-const CORR: &[u8] = b"corr";
 
 const TOL: &[u8] = b"tol";
 
@@ -28,7 +30,7 @@ const TOL: &[u8] = b"tol";
 fn is_other_kind(word: &[u8]) -> bool
     ensures { result ≡ is_other_kind word.now }
 {
-    word == READINGS || word == TABLE || word == CORR || word == TOL
+    word == TABLE || word == TOL
 }
 
 /// The row that the word `first` begins, where `words` are those after it in the line, which has no comment and
@@ -36,15 +38,22 @@ fn is_other_kind(word: &[u8]) -> bool
 ///
 /// # Errors
 ///
-/// The first word or token that breaks a rule, with its place in the line; out of memory for formula rows alone.
+/// The first word or token that breaks a rule, with its place in the line; out of memory for rows by readings
+/// and formula rows alone.
 pub fn read_begun_row(alloc: Global, first: &Word<'_>, words: Words<'_>) -> Result<Row, RowFault>
     requires { words.at ≡ first.now.place + length first.now.text.now }
     ensures exact { GivesBy row_of RowFault.OutOfMemory result (row_at words.entry.line (word_of first.now ∷ words_left words.entry)) }
-    ensures memory { result ≡ Err RowFault.OutOfMemory → begin_formula (word_of first.now ∷ words_left words.entry) ≡ true }
+    ensures memory { result ≡ Err RowFault.OutOfMemory → take_memory (word_of first.now ∷ words_left words.entry) ≡ true }
     ensures regular { IfOk result (λ row. IsRegular (row_of row)) }
 {
     if first.text == GIVEN {
         return read_given(words);
+    }
+    if first.text == READINGS {
+        return read_readings(alloc, words);
+    }
+    if first.text == CORR {
+        return read_corr(words);
     }
     if first.text == LET {
         return read_let(alloc, words.line(), words.at());
@@ -62,7 +71,7 @@ pub fn read_begun_row(alloc: Global, first: &Word<'_>, words: Words<'_>) -> Resu
 /// As of [`read_begun_row`].
 pub fn read_row_words(alloc: Global, mut words: Words<'_>) -> Result<Row, RowFault>
     ensures exact { GivesBy row_of RowFault.OutOfMemory result (row_at words.entry.line (words_left words.entry)) }
-    ensures memory { result ≡ Err RowFault.OutOfMemory → begin_formula (words_left words.entry) ≡ true }
+    ensures memory { result ≡ Err RowFault.OutOfMemory → take_memory (words_left words.entry) ≡ true }
     ensures regular { IfOk result (λ row. IsRegular (row_of row)) }
 {
     let Some(first) = words.next() else {
@@ -79,7 +88,7 @@ pub fn read_row_words(alloc: Global, mut words: Words<'_>) -> Result<Row, RowFau
 /// As of [`read_begun_row`].
 pub fn read_row(alloc: Global, line: &[u8], from: usize) -> Result<Row, RowFault>
     ensures exact { GivesBy row_of RowFault.OutOfMemory result (row_read line.now from) }
-    ensures memory { result ≡ Err RowFault.OutOfMemory → begin_formula (words_from (written_part line.now) from) ≡ true }
+    ensures memory { result ≡ Err RowFault.OutOfMemory → take_memory (words_from (written_part line.now) from) ≡ true }
     ensures regular { IfOk result (λ row. IsRegular (row_of row)) }
 {
     let text = written_part(line);

@@ -1,10 +1,11 @@
 use crate::{print_row, read_row};
+use line_text::{Bytes, OutOfMemory};
 use sheet_rows::RowFault;
 use std::alloc::Global;
 use std::test::Fail;
 
 /// Lines that give no row, and why. Places are counted from 1.
-const REFUSED: [(&str, RowFault); 89] = [
+const REFUSED: [(&str, RowFault); 104] = [
     ("", RowFault::Syntax(1)),
     (" \t ", RowFault::Syntax(1)),
     ("# given X 1 exact", RowFault::Syntax(1)),
@@ -91,16 +92,31 @@ const REFUSED: [(&str, RowFault); 89] = [
         RowFault::TooDeep(73),
     ),
     ("letY = 1", RowFault::Syntax(1)),
-    ("readings X 1 2", RowFault::NotBuilt),
+    ("readings", RowFault::Syntax(9)),
+    ("readings T.V 1 2", RowFault::Syntax(10)),
+    ("readings R", RowFault::TooFew),
+    ("readings R 1 # 2", RowFault::TooFew),
+    ("readings R 1 x y", RowFault::NotNumber(14)),
+    ("readings R 1 2 3 1e-40", RowFault::NumberRange(18)),
+    ("readings R 1 -1000000000", RowFault::Wide(2)),
+    ("readings R 1 2000 1e-12", RowFault::Wide(2)),
+    ("corr", RowFault::Syntax(5)),
+    ("corr T.P A B 1", RowFault::Syntax(6)),
+    ("corr A B 0.5", RowFault::Syntax(10)),
+    ("corr P A T.V.W 1", RowFault::Syntax(10)),
+    ("corr P A B", RowFault::Syntax(11)),
+    ("corr P A B 2x 3", RowFault::NotNumber(12)),
+    ("corr P A B 2 3", RowFault::Syntax(14)),
+    ("corr P A B 1.000000000000000001", RowFault::NumberRange(12)),
+    ("corr P A B -1.00000000000000001", RowFault::RRange),
     ("table T a b", RowFault::NotBuilt),
-    ("corr A B 0.5", RowFault::NotBuilt),
     ("tol X 1", RowFault::NotBuilt),
     ("value X", RowFault::Syntax(1)),
     ("  foo given X 5 exact", RowFault::Syntax(3)),
 ];
 
 /// Lines that give a row, and the row as it is printed.
-const READ: [(&str, &str); 24] = [
+const READ: [(&str, &str); 29] = [
     ("given X 5 exact", "given X 5 exact"),
     ("given X 5 std 1", "given X 5 std 1"),
     (
@@ -123,6 +139,14 @@ const READ: [(&str, &str); 24] = [
     ("given X 5 std 1 dof 1000000", "given X 5 std 1 dof 1000000"),
     ("given X 5 trap 1 0.5 rel 05", "given X 5 trap 1 0.5 rel 5"),
     ("given X 5 exact rel 70", "given X 5 exact rel 70"),
+    ("readings X 1 2", "readings X 1 2"),
+    ("readings\tR 1.50 -0 1e2 # three", "readings R 1.5 0 100"),
+    (
+        "readings R 999999999 0.000001",
+        "readings R 999999999 0.000001",
+    ),
+    ("corr P T.V B -0.50", "corr P T.V B -0.5"),
+    ("corr P A A 1.000", "corr P A A 1"),
     ("let Y=5", "let Y = 5"),
     ("let Y = 5 # five", "let Y = 5"),
     ("let\tY\t=\t(a+b)*-c^2\t", "let Y = (a + b) * -c^2"),
@@ -133,17 +157,30 @@ const READ: [(&str, &str); 24] = [
     ),
 ];
 
-fn fault_of(alloc: Global, line: &str, from: usize) -> Option<RowFault> {
-    match read_row(alloc, line.as_bytes(), from) {
+fn fault_of(alloc: Global, line: &[u8], from: usize) -> Option<RowFault> {
+    match read_row(alloc, line, from) {
         Ok(_) => None,
         Err(fault) => Some(fault),
     }
 }
 
+/// A line with this many readings.
+fn readings_line(alloc: Global, count: usize) -> Result<Bytes, OutOfMemory> {
+    let mut line = Bytes::from_slice(alloc, b"readings R")?;
+    for _ in 0..count {
+        line.extend_from_slice(b" 1.5")?;
+    }
+    Ok(line)
+}
+
 #[test]
 fn lines_that_give_no_row(rt: HostRuntime) {
     for (line, fault) in REFUSED {
-        assert_eq!(rt; fault_of(rt.alloc(), line, 0), Some(fault), "at {line}");
+        assert_eq!(rt;
+            fault_of(rt.alloc(), line.as_bytes(), 0),
+            Some(fault),
+            "at {line}"
+        );
     }
 }
 
@@ -160,11 +197,27 @@ fn lines_that_give_a_row(rt: HostRuntime) -> Result<(), Fail> {
 }
 
 #[test]
+fn at_most_a_thousand_readings(rt: HostRuntime) -> Result<(), Fail> {
+    let line = readings_line(rt.alloc(), 1001)?;
+    assert_eq!(rt;
+        fault_of(rt.alloc(), line.as_slice(), 0),
+        Some(RowFault::TooMany)
+    );
+    let line = readings_line(rt.alloc(), 1000)?;
+    let Ok(row) = read_row(rt.alloc(), line.as_slice(), 0) else {
+        panic!(rt; "refused");
+    };
+    let text = print_row(rt.alloc(), &row)?;
+    assert!(rt; text.as_slice() == line.as_slice());
+    Ok(())
+}
+
+#[test]
 fn rows_after_other_words(rt: HostRuntime) {
-    let line = "set given X 5 std 1";
+    let line = b"set given X 5 std 1";
     assert_eq!(rt; fault_of(rt.alloc(), line, 3), None);
-    let line = "set given X 5 foo 1";
+    let line = b"set given X 5 foo 1";
     assert_eq!(rt; fault_of(rt.alloc(), line, 3), Some(RowFault::Syntax(15)));
-    let line = "set # given X 5 exact";
+    let line = b"set # given X 5 exact";
     assert_eq!(rt; fault_of(rt.alloc(), line, 5), Some(RowFault::Syntax(4)));
 }

@@ -1,13 +1,14 @@
-//! Worked inputs. Each function has an empty body, and its clauses are theorems on the definitions.
+//! Worked rows. Each function has an empty body, and its clauses are theorems on the definitions.
 
-ghost use Rattle.std.specs.Prelude.{◌≡◌, pos, Ok, Err, codes};
+ghost use Rattle.std.specs.Prelude.{◌≡◌, [], ◌∷◌, pos, negsuc, Ok, Err, codes};
 ghost use Rattle.decimal18.specs.Bound.{scaled};
 ghost use Rattle.type_b.specs.declared.shape.Shape.TheVariants.{Exact, Std, Exp, Norm, Rect, Tri, Trap, Arcsine};
 ghost use Rattle.type_b.specs.declared.shape.Dof.TheVariants.{Inf, Whole, Rel};
-ghost use Rattle.sheet_rows.specs.Rows.{Given};
+ghost use Rattle.type_a.specs.WorkedTables.{single};
+ghost use Rattle.sheet_rows.specs.Rows.{Given, Readings, Correlation};
 ghost use Rattle.row_text.specs.Reading.{row_read};
 ghost use Rattle.row_text.specs.Printing.{printed};
-ghost use Rattle.sheet_rows.specs.declared.fault.RowFault.TheVariants.{Syntax, Negative, ZeroK, Beta, Level, DofRange};
+ghost use Rattle.sheet_rows.specs.declared.fault.RowFault.TheVariants.{Syntax, NotNumber, NumberRange, Negative, ZeroK, Beta, Level, DofRange, RRange, TooFew, Wide};
 
 /// The word of each shape, with its parameters in their order.
 pub fn worked_shapes()
@@ -46,9 +47,39 @@ pub fn worked_refusals()
     ensures long_percent { row_read (codes "given X 5 exact rel 001") 0 ≡ Err DofRange }
 {}
 
-/// Inputs as they are printed.
+/// Inputs by readings: how many there are is looked at before how wide they are, and both when all words are read.
+pub fn worked_readings()
+    ensures row { row_read (codes "readings R 1 2.50") 0 ≡ Ok (Readings (codes "R") (single (scaled (pos 1) 0 ∷ scaled (pos 25) 1 ∷ []))) }
+    ensures none { row_read (codes "readings R") 0 ≡ Err TooFew }
+    ensures one { row_read (codes "readings R 1") 0 ≡ Err TooFew }
+    ensures few_first { row_read (codes "readings R 1000000000") 0 ≡ Err TooFew }
+    ensures wide { row_read (codes "readings R 1000000000 1") 0 ≡ Err (Wide 1) }
+    ensures wide_by_places { row_read (codes "readings R 1 2000 1e-12") 0 ≡ Err (Wide 2) }
+    ensures number_first { row_read (codes "readings R 1 x") 0 ≡ Err (NotNumber 14) }
+    ensures range_first { row_read (codes "readings R 1e999 x") 0 ≡ Err (NumberRange 12) }
+    ensures name { row_read (codes "readings 2R 1 2") 0 ≡ Err (Syntax 10) }
+    ensures no_name { row_read (codes "readings") 0 ≡ Err (Syntax 9) }
+{}
+
+/// Correlations.
+pub fn worked_correlations()
+    ensures row { row_read (codes "corr P T.V B 0.5") 0 ≡ Ok (Correlation (codes "P") (codes "T.V") (codes "B") (scaled (pos 5) 1)) }
+    ensures least { row_read (codes "corr P A B -1") 0 ≡ Ok (Correlation (codes "P") (codes "A") (codes "B") (scaled (negsuc 0) 0)) }
+    ensures most { row_read (codes "corr P A B 1.0") 0 ≡ Ok (Correlation (codes "P") (codes "A") (codes "B") (scaled (pos 1) 0)) }
+    ensures above { row_read (codes "corr P A B 1.01") 0 ≡ Err RRange }
+    ensures below { row_read (codes "corr P A B -1.01") 0 ≡ Err RRange }
+    ensures word_first { row_read (codes "corr P A B 2 3") 0 ≡ Err (Syntax 14) }
+    ensures number { row_read (codes "corr P A B C") 0 ≡ Err (NotNumber 12) }
+    ensures no_number { row_read (codes "corr P A B") 0 ≡ Err (Syntax 11) }
+    ensures name { row_read (codes "corr T.V A B 1") 0 ≡ Err (Syntax 6) }
+    ensures other_name { row_read (codes "corr P A 0.5") 0 ≡ Err (Syntax 10) }
+{}
+
+/// Rows as they are printed.
 pub fn worked_texts()
     ensures infinite { printed (Given (codes "X") (scaled (pos 5) 0) (Exp (scaled (pos 5) 2) (scaled (pos 2) 0)) Inf) ≡ codes "given X 5 exp 0.05 2" }
     ensures whole { printed (Given (codes "X") (scaled (pos 5) 0) (Norm (scaled (pos 1) 0) 95) (Whole 12)) ≡ codes "given X 5 norm 1 95 dof 12" }
     ensures relative { printed (Given (codes "X") (scaled (pos 5) 0) (Trap (scaled (pos 1) 0) (scaled (pos 5) 1)) (Rel 5)) ≡ codes "given X 5 trap 1 0.5 rel 5" }
+    ensures readings { printed (Readings (codes "X") (single (scaled (pos 1) 0 ∷ scaled (pos 25) 1 ∷ scaled (pos 3) 0 ∷ []))) ≡ codes "readings X 1 2.5 3" }
+    ensures correlation { printed (Correlation (codes "P") (codes "A") (codes "B") (scaled (negsuc 4) 1)) ≡ codes "corr P A B -0.5" }
 {}

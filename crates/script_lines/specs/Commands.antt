@@ -5,7 +5,7 @@ use Rattle.formula_ast.specs.Names.{is_plain_name, is_name}
 use Rattle.line_text.specs.Words.{Word, words_from, written_part}
 use Rattle.sheet_rows.specs.Rows.{Row}
 use Rattle.row_text.specs.Parts.{Read as ReadRow}
-use Rattle.row_text.specs.Reading.{begin_formula, row_at}
+use Rattle.row_text.specs.Reading.{take_memory, row_at}
 use Rattle.sheet_rows.specs.declared.fault.RowFault.TheVariants.{NotBuilt as RowNotBuilt}
 use Rattle.answers.specs.Commands.{Command, Add, Set, Remove, Change, Undo, Redo, Mark, Restore, Ask, AskAt}
 use Rattle.answers.specs.declared.command.Query.{Query}
@@ -124,25 +124,25 @@ command_read LongLine = Err LineTooLong
 command_read LongTable = Err TableTooLong
 command_read UnclosedTable = Err TableUnclosed
 
--- ---- whether the line is to give a formula row: no other line's reading takes memory
-abbrev pub gives_formula_with : Verb → Word → List Word → Bool
-gives_formula_with SetVerb w ws = begin_formula ws
-gives_formula_with RemoveVerb w ws = false
-gives_formula_with UndoVerb w ws = false
-gives_formula_with RedoVerb w ws = false
-gives_formula_with MarkVerb w ws = false
-gives_formula_with RestoreVerb w ws = false
-gives_formula_with AtVerb w ws = false
-gives_formula_with AskVerb w ws = false
-gives_formula_with RowVerb w ws = begin_formula (w ∷ ws)
+-- ---- whether the reading of the line takes memory: it is to give a row of readings or a formula
+abbrev pub takes_memory_with : Verb → Word → List Word → Bool
+takes_memory_with SetVerb w ws = take_memory ws
+takes_memory_with RemoveVerb w ws = false
+takes_memory_with UndoVerb w ws = false
+takes_memory_with RedoVerb w ws = false
+takes_memory_with MarkVerb w ws = false
+takes_memory_with RestoreVerb w ws = false
+takes_memory_with AtVerb w ws = false
+takes_memory_with AskVerb w ws = false
+takes_memory_with RowVerb w ws = take_memory (w ∷ ws)
 
-abbrev pub words_give_formula : List Word → Bool
-words_give_formula [] = false
-words_give_formula (w ∷ ws) = gives_formula_with (verb_of w.text) w ws
+abbrev pub words_take_memory : List Word → Bool
+words_take_memory [] = false
+words_take_memory (w ∷ ws) = takes_memory_with (verb_of w.text) w ws
 
-abbrev pub gives_formula : Item → Bool
-gives_formula (Line line) = words_give_formula (words_from (written_part line) 0)
-gives_formula (Block head body) = false
-gives_formula LongLine = false
-gives_formula LongTable = false
-gives_formula UnclosedTable = false
+abbrev pub takes_memory : Item → Bool
+takes_memory (Line line) = words_take_memory (words_from (written_part line) 0)
+takes_memory (Block head body) = false
+takes_memory LongLine = false
+takes_memory LongTable = false
+takes_memory UnclosedTable = false

@@ -6,9 +6,9 @@ use Rattle.fixed_interval.specs.declared.faults.ArithFault.TheVariants.{ZeroDivi
 use Rattle.sheet_rows.specs.Rows.{Row}
 use Rattle.row_text.specs.Printing.{printed}
 use Rattle.sheet_rows.specs.declared.fault.RowFault.{RowFault}
-use Rattle.sheet_rows.specs.declared.fault.RowFault.TheVariants.{Syntax, NotNumber, NumberRange, UnknownFunction, BadPower, TooDeep, TooManyNodes, Negative, ZeroK, Beta, Level, DofRange, NotBuilt, OutOfMemory}
+use Rattle.sheet_rows.specs.declared.fault.RowFault.TheVariants.{Syntax, NotNumber, NumberRange, UnknownFunction, BadPower, TooDeep, TooManyNodes, Negative, ZeroK, Beta, Level, DofRange, RRange, TooFew, TooMany, Shape, Wide, NotBuilt, OutOfMemory}
 use Rattle.sheet_rows.specs.declared.edit_fault.EditFault.{EditFault}
-use Rattle.sheet_rows.specs.declared.edit_fault.EditFault.TheVariants.{RowsFull, Duplicate, Unknown, NotEarlier, InUse, OutOfMemory as EditMemory}
+use Rattle.sheet_rows.specs.declared.edit_fault.EditFault.TheVariants.{RowsFull, Duplicate, Unknown, NotEarlier, NotCorrelatable, AlreadyCorrelated, InUse, OutOfMemory as EditMemory}
 use Rattle.answers.specs.declared.fault.LineFault.{LineFault}
 use Rattle.answers.specs.declared.fault.LineFault.TheVariants.{Syntax as LineSyntax, Row as RowRefused, LongLine, LongTable, UnclosedTable, NotBuilt as LineNotBuilt, OutOfMemory as LineMemory}
 use Rattle.answers.specs.declared.fault.HistoryFault.{HistoryFault}
@@ -43,6 +43,11 @@ text_of_row_fault ZeroK = codes "refused zero_k\n"
 text_of_row_fault Beta = codes "refused beta\n"
 text_of_row_fault Level = codes "refused level\n"
 text_of_row_fault DofRange = codes "refused dof_range\n"
+text_of_row_fault RRange = codes "refused r_range\n"
+text_of_row_fault TooFew = codes "refused too_few\n"
+text_of_row_fault TooMany = codes "refused too_many\n"
+text_of_row_fault (Shape place) = placed (codes "refused shape ") place
+text_of_row_fault (Wide place) = placed (codes "refused wide ") place
 text_of_row_fault NotBuilt = codes "refused not_built\n"
 text_of_row_fault OutOfMemory = []
 
@@ -60,6 +65,8 @@ text_of_edit_fault RowsFull = codes "refused rows_full\n"
 text_of_edit_fault (Duplicate name) = named (codes "refused duplicate ") name
 text_of_edit_fault (Unknown name) = named (codes "refused unknown ") name
 text_of_edit_fault (NotEarlier name) = named (codes "refused not_earlier ") name
+text_of_edit_fault (NotCorrelatable name) = named (codes "refused not_correlatable ") name
+text_of_edit_fault (AlreadyCorrelated name) = named (codes "refused already_correlated ") name
 text_of_edit_fault (InUse name) = named (codes "refused in_use ") name
 text_of_edit_fault EditMemory = []
 

@@ -43,6 +43,11 @@ fn put_row_fault(text: &mut Bytes, fault: &RowFault) -> Result<(), OutOfMemory>
         RowFault::Beta => text.extend_from_slice(b"refused beta\n"),
         RowFault::Level => text.extend_from_slice(b"refused level\n"),
         RowFault::DofRange => text.extend_from_slice(b"refused dof_range\n"),
+        RowFault::RRange => text.extend_from_slice(b"refused r_range\n"),
+        RowFault::TooFew => text.extend_from_slice(b"refused too_few\n"),
+        RowFault::TooMany => text.extend_from_slice(b"refused too_many\n"),
+        RowFault::Shape(place) => put_placed(text, b"refused shape ", *place),
+        RowFault::Wide(place) => put_placed(text, b"refused wide ", *place),
         RowFault::NotBuilt => text.extend_from_slice(b"refused not_built\n"),
         RowFault::OutOfMemory => Ok(()),
     }
@@ -72,6 +77,10 @@ pub(crate) fn put_edit_fault(text: &mut Bytes, fault: &EditFault) -> Result<(), 
         EditFault::Duplicate(name) => put_named(text, b"refused duplicate ", name),
         EditFault::Unknown(name) => put_named(text, b"refused unknown ", name),
         EditFault::NotEarlier(name) => put_named(text, b"refused not_earlier ", name),
+        EditFault::NotCorrelatable(name) => put_named(text, b"refused not_correlatable ", name),
+        EditFault::AlreadyCorrelated(name) => {
+            put_named(text, b"refused already_correlated ", name)
+        }
         EditFault::InUse(name) => put_named(text, b"refused in_use ", name),
         EditFault::OutOfMemory => Ok(()),
     }

@@ -5,9 +5,9 @@ ghost use Rattle.line_text.specs.Memory.{GivesBy};
 ghost use Rattle.line_text.specs.Words.{word_of, words_left, words_from, written_part};
 ghost use Rattle.sheet_rows.specs.Rows.{row_of};
 ghost use Rattle.sheet_rows.specs.Regular.{IsRegular};
-ghost use Rattle.row_text.specs.Reading.{begin_formula, row_at};
+ghost use Rattle.row_text.specs.Reading.{take_memory, row_at};
 ghost use Rattle.answers.specs.Commands.{command_of, IsRegularCommand};
-ghost use Rattle.script_lines.specs.Commands.{row_of_line, command_with, line_read, command_read, gives_formula_with, words_give_formula, gives_formula};
+ghost use Rattle.script_lines.specs.Commands.{row_of_line, command_with, line_read, command_read, takes_memory_with, words_take_memory, takes_memory};
 
 use crate::item::Item;
 use crate::verb::{Verb, verb_of};
@@ -21,7 +21,7 @@ use std::alloc::Global;
 /// The row that these words of a line give.
 fn set_row(alloc: Global, words: Words<'_>) -> Result<Row, LineFault>
     ensures exact { GivesBy row_of LineFault.OutOfMemory result (row_of_line (row_at words.entry.line (words_left words.entry))) }
-    ensures memory { result ≡ Err LineFault.OutOfMemory → begin_formula (words_left words.entry) ≡ true }
+    ensures memory { result ≡ Err LineFault.OutOfMemory → take_memory (words_left words.entry) ≡ true }
     ensures regular { IfOk result (λ row. IsRegular (row_of row)) }
 {
     match read_row_words(alloc, words) {
@@ -36,7 +36,7 @@ fn added_row(alloc: Global, first: &Word<'_>, words: Words<'_>) -> Result<Row, L
     requires place { words.at ≡ first.now.place + length first.now.text.now }
     requires fits { words.at < 2 ^ 63 }
     ensures exact { GivesBy row_of LineFault.OutOfMemory result (row_of_line (row_at words.entry.line (word_of first.now ∷ words_left words.entry))) }
-    ensures memory { result ≡ Err LineFault.OutOfMemory → begin_formula (word_of first.now ∷ words_left words.entry) ≡ true }
+    ensures memory { result ≡ Err LineFault.OutOfMemory → take_memory (word_of first.now ∷ words_left words.entry) ≡ true }
     ensures regular { IfOk result (λ row. IsRegular (row_of row)) }
 {
     match read_begun_row(alloc, first, words) {
@@ -58,7 +58,7 @@ fn read_with(
     requires fits { words.at < 2 ^ 63 }
     ensures exact { GivesBy command_of LineFault.OutOfMemory result
         (command_with verb words.entry.line (word_of first.now) (words_left words.entry)) }
-    ensures memory { result ≡ Err LineFault.OutOfMemory → gives_formula_with verb (word_of first.now) (words_left words.entry) ≡ true }
+    ensures memory { result ≡ Err LineFault.OutOfMemory → takes_memory_with verb (word_of first.now) (words_left words.entry) ≡ true }
     ensures regular { IfOk result (λ command. IsRegularCommand (command_of command)) }
 {
     match verb {
@@ -86,7 +86,7 @@ fn read_with(
 /// The command that the line is, and `None` where it has no words.
 fn read_line(alloc: Global, line: &[u8]) -> Result<Option<Command>, LineFault>
     ensures exact { GivesBy (option_map command_of) LineFault.OutOfMemory result (line_read line.now) }
-    ensures memory { result ≡ Err LineFault.OutOfMemory → words_give_formula (words_from (written_part line.now) 0) ≡ true }
+    ensures memory { result ≡ Err LineFault.OutOfMemory → words_take_memory (words_from (written_part line.now) 0) ≡ true }
     ensures regular { IfOk result (λ read. IfSome read (λ command. IsRegularCommand (command_of command))) }
 {
     let mut words = Words::from(written_part(line), 0);
@@ -104,11 +104,11 @@ fn read_line(alloc: Global, line: &[u8]) -> Result<Option<Command>, LineFault>
 /// [`LineFault::LongLine`] for a line, and [`LineFault::LongTable`] for a block that is too long;
 /// [`LineFault::UnclosedTable`] for a block that the end of the input ended; [`RowFault::NotBuilt`] for any other block,
 /// as no row is a table yet; the first word or token that breaks a rule, with its
-/// place in the line, or the rule alone where the row as a whole breaks it; out of memory for lines that are to
-/// give a formula row alone.
+/// place in the line, or the rule alone where the row as a whole breaks it; out of memory for lines alone that are
+/// to give a row of readings or a formula.
 pub fn read_command(alloc: Global, item: &Item) -> Result<Option<Command>, LineFault>
     ensures exact { GivesBy (option_map command_of) LineFault.OutOfMemory result (command_read item.now) }
-    ensures memory { result ≡ Err LineFault.OutOfMemory → gives_formula item.now ≡ true }
+    ensures memory { result ≡ Err LineFault.OutOfMemory → takes_memory item.now ≡ true }
     ensures regular { IfOk result (λ read. IfSome read (λ command. IsRegularCommand (command_of command))) }
 {
     match item {

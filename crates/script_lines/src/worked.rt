@@ -1,8 +1,8 @@
 //! Worked lines, blocks, commands and replies. Each function has an empty body, and its clauses are theorems on the
 //! definitions.
 
-ghost use Rattle.std.specs.Prelude.{◌≡◌, ℕ, List, [], ◌∷◌, true, false, length, pos, Some, None, Ok, Err, codes};
-ghost use Rattle.sheet_rows.specs.Rows.{Given, Formula};
+ghost use Rattle.std.specs.Prelude.{◌≡◌, ℕ, List, [], ◌∷◌, true, false, length, pos, negsuc, Some, None, Ok, Err, codes};
+ghost use Rattle.sheet_rows.specs.Rows.{Given, Readings, Correlation, Formula};
 ghost use Rattle.formula_ast.specs.Trees.{Number};
 ghost use Rattle.type_b.specs.declared.shape.Shape.TheVariants.{Exact};
 ghost use Rattle.type_b.specs.declared.shape.Dof.TheVariants.{Inf};
@@ -69,6 +69,10 @@ pub fn worked_commands()
     ensures empty { command_read (Line []) ≡ Ok None }
     ensures set { command_read (Line (codes "set let Y=5")) ≡ Ok (Some (Change (Set (Formula (codes "Y") (Number (scaled (pos 5) 0)))))) }
     ensures add { command_read (Line (codes "given X 5 exact")) ≡ Ok (Some (Change (Add (Given (codes "X") (scaled (pos 5) 0) Exact Inf)))) }
+    ensures readings { command_read (Line (codes "set readings R 1 2.5"))
+        ≡ Ok (Some (Change (Set (Readings (codes "R") ((scaled (pos 1) 0 ∷ []) ∷ (scaled (pos 25) 1 ∷ []) ∷ []))))) }
+    ensures correlation { command_read (Line (codes "corr P A T.V -0.5"))
+        ≡ Ok (Some (Change (Add (Correlation (codes "P") (codes "A") (codes "T.V") (scaled (negsuc 4) 1))))) }
     ensures blank { command_read (Line (codes " \t # undo")) ≡ Ok None }
     ensures undo { command_read (Line (codes " undo # back")) ≡ Ok (Some Undo) }
     ensures redo { command_read (Line (codes "redo")) ≡ Ok (Some Redo) }
@@ -101,7 +105,8 @@ pub fn worked_refusals()
     ensures no_row { command_read (Line (codes "set")) ≡ Err (LineFault.Row (RowFault.Syntax 4)) }
     ensures other_word { command_read (Line (codes "set undo")) ≡ Err (LineFault.Row (RowFault.Syntax 5)) }
     ensures column { command_read (Line (codes "remove T.V")) ≡ Err (LineFault.Syntax 8) }
-    ensures other_row { command_read (Line (codes "corr A B 1")) ≡ Err (LineFault.Row RowFault.NotBuilt) }
+    ensures other_row { command_read (Line (codes "tol G upper 1 guard 1")) ≡ Err (LineFault.Row RowFault.NotBuilt) }
+    ensures no_second { command_read (Line (codes "corr A B 1")) ≡ Err (LineFault.Row (RowFault.Syntax 10)) }
     ensures unknown { command_read (Line (codes "  foo")) ≡ Err (LineFault.Row (RowFault.Syntax 3)) }
 {}
 
@@ -115,11 +120,18 @@ pub fn worked_replies()
     ensures level { text_of_reply (Reply.Line (LineFault.Row RowFault.Level)) ≡ codes "refused level\n" }
     ensures dof_range { text_of_reply (Reply.Line (LineFault.Row RowFault.DofRange)) ≡ codes "refused dof_range\n" }
     ensures long { text_of_reply (Reply.Line LineFault.LongLine) ≡ codes "refused long_line\n" }
+    ensures coefficient { text_of_reply (Reply.Line (LineFault.Row RowFault.RRange)) ≡ codes "refused r_range\n" }
+    ensures few { text_of_reply (Reply.Line (LineFault.Row RowFault.TooFew)) ≡ codes "refused too_few\n" }
+    ensures many { text_of_reply (Reply.Line (LineFault.Row RowFault.TooMany)) ≡ codes "refused too_many\n" }
+    ensures shape { text_of_reply (Reply.Line (LineFault.Row (RowFault.Shape 3))) ≡ codes "refused shape 3\n" }
+    ensures wide { text_of_reply (Reply.Line (LineFault.Row (RowFault.Wide 12))) ≡ codes "refused wide 12\n" }
     ensures long_table { text_of_reply (Reply.Line LineFault.LongTable) ≡ codes "refused long_table\n" }
     ensures open_table { text_of_reply (Reply.Line LineFault.UnclosedTable) ≡ codes "refused open_table\n" }
     ensures full { text_of_reply (Reply.Edit EditFault.RowsFull) ≡ codes "refused rows_full\n" }
     ensures used { text_of_reply (Reply.Edit (EditFault.InUse (codes "Y"))) ≡ codes "refused in_use Y\n" }
     ensures earlier { text_of_reply (Reply.Edit (EditFault.NotEarlier (codes "Y"))) ≡ codes "refused not_earlier Y\n" }
+    ensures no_correlation { text_of_reply (Reply.Edit (EditFault.NotCorrelatable (codes "A"))) ≡ codes "refused not_correlatable A\n" }
+    ensures correlated { text_of_reply (Reply.Edit (EditFault.AlreadyCorrelated (codes "A"))) ≡ codes "refused already_correlated A\n" }
     ensures undo { text_of_reply (Reply.History HistoryFault.NothingToUndo) ≡ codes "refused nothing_to_undo\n" }
     ensures redo { text_of_reply (Reply.History HistoryFault.NothingToRedo) ≡ codes "refused nothing_to_redo\n" }
     ensures marks { text_of_reply (Reply.Mark MarkFault.MarksFull) ≡ codes "refused marks_full\n" }

@@ -3,13 +3,14 @@ use Rattle.std.proofs.Common.{◌≡◌, ℕ, Bool, true, false, ◌||◌, ◌&&
 use Rattle.std.specs.Prelude.{bytes_eq}
 use Rattle.std.specs.List.{list_all}
 use Rattle.std.proofs.lemmas.List.{length-append, append-nil}
-use Rattle.std.proofs.lemmas.List.Folds.{list_all-append}
-use Rattle.std.proofs.lemmas.Bool.{and_parts, or_parts, and_from, not-true}
-use Rattle.sheet_rows.specs.Rows.{Row, Sheet, name_of, used_names}
-use Rattle.sheet_rows.specs.declared.edit_fault.EditFault.TheVariants.{RowsFull, Duplicate, Unknown, NotEarlier}
-use Rattle.sheet_edits.specs.Sheets.{IsWellFormed, IsAccepted, is_named, is_among, has_row, is_quantity_in, are_known, are_named_once, are_earlier, row_limit, added, rows_before, unless, unless_uses_fail, first_unknown, first_not_earlier, verdict_add}
-use Rattle.sheet_edits.proofs.Conditions.{ok_same, unless_ok, cond_ok, none_all, all_none, all_more, other_way}
-use Rattle.sheet_edits.proofs.Verdicts.{below, up_to, quantity_append, with_last, added_has, before_added}
+use Rattle.std.proofs.lemmas.List.Folds.{list_all-append, list_any-append}
+use Rattle.std.proofs.lemmas.Bool.{lt-leb, leb-false, and_parts, or_parts, and_from, not-true}
+use Rattle.sheet_rows.specs.Rows.{Row, Sheet, name_of, used_names, is_correlatable}
+use Rattle.sheet_rows.specs.declared.edit_fault.EditFault.TheVariants.{RowsFull, Duplicate}
+use Rattle.sheet_edits.specs.Sheets.{IsWellFormed, IsAccepted, is_named, is_among, has_row, is_quantity_in, is_correlatable_in, are_known, are_correlatable, are_apart, are_named_once, are_earlier, row_limit, added, unless_uses_fail, verdict_add}
+use Rattle.sheet_edits.proofs.Conditions.{ok_same, cond_ok, all_more, other_way}
+use Rattle.sheet_edits.proofs.Verdicts.{quantity_append, with_last, added_has, before_added, uses_ok, ok_uses}
+use Rattle.sheet_edits.proofs.Correlated.{correlatable_more, apart_after_added}
 
 -- ---- names
 once_added : (sheet : List Row) (row : Row) → are_named_once sheet ≡ true → is_among sheet (name_of row) ≡ false → are_named_once (with_last sheet row) ≡ true
@@ -54,6 +55,10 @@ grows sheet row n h = quantity_append sheet (row ∷ []) n ∙ ap (λ b. b || is
 known_added : (sheet : List Row) (row r : Row) → are_known sheet r ≡ true → are_known (with_last sheet row) r ≡ true
 known_added sheet row r h = all_more (is_quantity_in sheet) (is_quantity_in (with_last sheet row)) (grows sheet row) (used_names r) h
 
+correlatable_grows : (sheet : List Row) (row : Row) (n : List ℕ) → is_correlatable_in sheet n ≡ true → is_correlatable_in (with_last sheet row) n ≡ true
+correlatable_grows sheet row n h =
+    list_any-append (λ r. is_named n r && is_correlatable r) sheet (row ∷ []) ∙ ap (λ b. b || is_correlatable_in (row ∷ []) n) h
+
 module _ (sheet : Sheet) (row : Row) (whole : IsWellFormed sheet) where
   abbrev before : List Row
   before = sheet.rows
@@ -61,41 +66,44 @@ module _ (sheet : Sheet) (row : Row) (whole : IsWellFormed sheet) where
   abbrev after : List Row
   after = with_last sheet.rows row
 
+  -- each row passes after the edit that passed before it, and the row added
+  all_added : (p q : Row → Bool) → ((r : Row) → p r ≡ true → q r ≡ true) → list_all p before ≡ true → q row ≡ true → list_all q after ≡ true
+  all_added p q more h own = list_all-append q before (row ∷ []) ∙ and_from (list_all q before) (q row && true) (all_more p q more before h) (and_from (q row) true own refl)
+
+  last_passes : (p : Row → Bool) → list_all p after ≡ true → p row ≡ true
+  last_passes p h =
+      let both = sym (list_all-append p before (row ∷ [])) ∙ h in
+      (and_parts (p row) true (and_parts (list_all p before) (p row && true) both).1).0
+
   add_keeps : nat_le row_limit (length before) ≡ false → is_among before (name_of row) ≡ false → are_known after row ≡ true → are_known before row ≡ true
-      → IsWellFormed (added sheet row)
-  add_keeps full new known earlier = record {
-    limit = omega (arith, up_to row_limit (length before) full, length-append before (row ∷ []));
+      → are_correlatable after row ≡ true → are_apart after row ≡ true → IsWellFormed (added sheet row)
+  add_keeps full new known earlier correlatable apart = record {
+    limit = omega (arith, leb-false row_limit (length before) full, length-append before (row ∷ []));
     once = once_added before row whole.once new;
-    known =
-        list_all-append (are_known after) before (row ∷ [])
-        ∙ and_from (list_all (are_known after) before) (are_known after row && true)
-        (all_more (are_known before) (are_known after) (known_added before row) before whole.known) (and_from (are_known after row) true known refl);
+    known = all_added (are_known before) (are_known after) (known_added before row) whole.known known;
     earlier = earlier_append [] before row ∙ and_from (are_earlier [] before) (are_known before row) whole.earlier earlier;
+    correlatable = all_added (are_correlatable before) (are_correlatable after) (correlatable_more before after (correlatable_grows before row)) whole.correlatable correlatable;
+    apart = apart_after_added row before whole.apart apart;
   }
 
   pub add_accepted : (edited : Sheet) → verdict_add sheet row ≡ Ok edited → IsAccepted edited (added sheet row)
   add_accepted edited h =
       let full = cond_ok (nat_le row_limit (length before)) RowsFull (cond (has_row sheet (name_of row)) (Err (Duplicate (name_of row))) (unless_uses_fail (added sheet row) row (Ok (added sheet row)))) edited h in
       let new = cond_ok (has_row sheet (name_of row)) (Duplicate (name_of row)) (unless_uses_fail (added sheet row) row (Ok (added sheet row))) edited full.1 in
-      let known = unless_ok (first_unknown (added sheet row) row) Unknown (unless (first_not_earlier (added sheet row) row) NotEarlier (Ok (added sheet row))) edited new.1 in
-      let earlier = unless_ok (first_not_earlier (added sheet row) row) NotEarlier (Ok (added sheet row)) edited known.1 in
-      let same : added sheet row ≡ edited = ok_same earlier.1 in
-      let stands : are_known before row ≡ true =
-      ap (λ rows. are_known rows row) (sym (before_added before row new.0)) ∙ none_all (is_quantity_in (rows_before (name_of row) after)) (used_names row) earlier.0 in
+      let free = uses_ok (added sheet row) row (Ok (added sheet row)) edited new.1 in
+      let same : added sheet row ≡ edited = ok_same free.rest in
+      let stands : are_known before row ≡ true = ap (λ rows. are_known rows row) (sym (before_added before row new.0)) ∙ free.earlier in
       record {
         is = sym same;
-        well_formed = subst IsWellFormed same (add_keeps full.0 new.0 (none_all (is_quantity_in after) (used_names row) known.0) stands);
+        well_formed = subst IsWellFormed same (add_keeps full.0 new.0 free.known stands free.correlatable free.apart);
       }
 
   pub add_complete : IsWellFormed (added sheet row) → verdict_add sheet row ≡ Ok (added sheet row)
   add_complete edited =
-      let full : nat_le row_limit (length before) ≡ false = below row_limit (length before) (omega (arith, edited.limit, length-append before (row ∷ []))) in
+      let full : nat_le row_limit (length before) ≡ false = lt-leb row_limit (length before) (omega (arith, edited.limit, length-append before (row ∷ []))) in
       let new : is_among before (name_of row) ≡ false = new_from_once before row edited.once in
-      let both = sym (list_all-append (are_known after) before (row ∷ [])) ∙ edited.known in
-      let known : are_known after row ≡ true = (and_parts (are_known after row) true (and_parts (list_all (are_known after) before) (are_known after row && true) both).1).0 in
       let stands : are_known before row ≡ true = (and_parts (are_earlier [] before) (are_known before row) (sym (earlier_append [] before row) ∙ edited.earlier)).1 in
-      let stood : are_known (rows_before (name_of row) after) row ≡ true = ap (λ rows. are_known rows row) (before_added before row new) ∙ stands in
-      let no_unknown = all_none (is_quantity_in after) (used_names row) known in
-      let none_later = all_none (is_quantity_in (rows_before (name_of row) after)) (used_names row) stood in
-      λ j. cond (full j) (Err RowsFull) (cond (new j) (Err (Duplicate (name_of row)))
-      (unless (no_unknown j) Unknown (unless (none_later j) NotEarlier (Ok (added sheet row)))))
+      let free = ok_uses (added sheet row) row (Ok (added sheet row)) (last_passes (are_known after) edited.known)
+      (ap (λ rows. are_known rows row) (before_added before row new) ∙ stands) (last_passes (are_correlatable after) edited.correlatable)
+      (last_passes (are_apart after) edited.apart) in
+      λ j. cond (full j) (Err RowsFull) (cond (new j) (Err (Duplicate (name_of row))) (free j))

@@ -5,7 +5,7 @@ use Rattle.sheet_rows.specs.Rows.{Row, Sheet, name_of}
 use Rattle.sheet_edits.specs.Sheets.{Verdict, IsAccepted, is_named, added, set_row, removed, rows_with, rows_without, verdict_add, verdict_set, verdict_remove}
 use Rattle.sheet_rows.specs.Regular.{IsRegular, AreRegular}
 use Rattle.sheet_edits.specs.Standing.{IsStanding}
-use Rattle.sheet_edits.specs.Places.{IsVerdict}
+use Rattle.sheet_edits.specs.Places.{IsVerdict, IsChecked}
 use Rattle.sheet_edits.proofs.Adding.{add_accepted}
 use Rattle.sheet_edits.proofs.Setting.{set_accepted}
 use Rattle.sheet_edits.proofs.Removing.{remove_accepted}
@@ -49,3 +49,8 @@ pub verdict_stands : {A : Type 0} (r : Result A EditFault) (new : Sheet) (v : Ve
     → IsVerdict r new v → OnOk r (IsStanding new)
 verdict_stands (Ok x) new v says h = says new h
 verdict_stands (Err fault) new v says h = tt
+
+-- a check that refuses nothing lets the edit go on
+pub checked_verdict : {A : Type 0} (r : Result A EditFault) (new : Sheet) (v : Verdict) → IsChecked r (Ok new) v → IsVerdict r new v
+checked_verdict (Ok x) new v h = h
+checked_verdict (Err fault) new v h = h

@@ -1,8 +1,11 @@
 pub mod Mentions
+pub mod Conditions
+pub mod Named
 pub mod Entries
 pub mod Positions
 pub mod Verdicts
-pub mod Conditions
+pub mod Correlated
+pub mod Left
 pub mod Adding
 pub mod Setting
 pub mod Removing

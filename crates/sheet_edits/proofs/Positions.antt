@@ -1,5 +1,5 @@
 -- Places of the first items that pass a test, item by item.
-use Rattle.std.proofs.Common.{◌≡◌, ℕ, zero, suc, ◌+◌, ◌<◌, Bool, true, false, ◌||◌, cond, not, nat_lt, List, [], ◌∷◌, length, take, Option, None, Some, is_some, refl, sym, ap, ◌∙◌, arith, lt-ltb, le-ltb, true≢false}
+use Rattle.std.proofs.Common.{◌≡◌, ℕ, zero, suc, ◌+◌, Bool, true, false, ◌||◌, cond, not, nat_lt, List, [], ◌∷◌, length, take, Option, None, Some, is_some, refl, sym, ap, ◌∙◌, arith, lt-ltb, le-ltb, true≢false}
 use Rattle.std.specs.Prelude.{position, unwrap_or, find, filter, bytes_eq}
 use Rattle.std.specs.List.{position_or_len, list_any}
 use Rattle.std.specs.Option.{option_map}
@@ -77,11 +77,6 @@ module _ {X : Type 0} (p : X → Bool) where
   pub first_at : (xs : List X) (i : ℕ) → position p xs ≡ Some i → IsFirstAt xs i
   first_at [] i h = none_some h
   first_at (x ∷ xs) i h = first_by x xs (p x) (position p xs) i refl (first_at xs) (sym (position-cons x xs) ∙ h)
-
-  pub within : (xs : List X) (i : ℕ) → IsFirstAt xs i → i < length xs
-  within [] i h = absurd h
-  within (x ∷ xs) zero h = omega arith
-  within (x ∷ xs) (suc i) h = omega (arith, within xs i h.1)
 
 -- ---- finding
 pub find_agree : {X : Type 0} (p q : X → Bool) → ((x : X) → p x ≡ q x) → (xs : List X) → find p xs ≡ find q xs

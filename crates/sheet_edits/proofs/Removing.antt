@@ -3,31 +3,24 @@ use Rattle.std.proofs.Common.{◌≡◌, ◌≤◌, ℕ, suc, Bool, true, false,
 use Rattle.std.specs.Prelude.{bytes_eq, find}
 use Rattle.std.specs.Option.{option_map}
 use Rattle.std.specs.List.{list_any, list_all}
-use Rattle.sheet_rows.specs.Rows.{Row, Sheet, name_of, used_names}
+use Rattle.sheet_rows.specs.Rows.{Row, Sheet, name_of, used_names, gives, correlated_names, is_correlatable}
 use Rattle.sheet_rows.specs.declared.edit_fault.EditFault.TheVariants.{InUse}
-use Rattle.sheet_edits.specs.Sheets.{IsWellFormed, IsAccepted, is_named, is_among, has_row, is_quantity_in, are_known, are_named_once, are_earlier, rows_without, removed, unless, verdict_remove}
+use Rattle.sheet_edits.specs.Sheets.{IsWellFormed, IsAccepted, is_named, is_among, has_row, is_quantity_in, is_correlatable_in, repeated_name, are_known, are_correlatable, are_named_once, are_earlier, rows_without, removed, unless, verdict_remove, verdict_on_removal}
 use Rattle.sheet_edits.specs.Places.{place_of}
 use Rattle.std.proofs.Math.Bool.{or-false}
 use Rattle.std.proofs.lemmas.Bool.{and_parts, or_parts, and_from, not-true}
 use Rattle.sheet_edits.proofs.Positions.{position-any}
-use Rattle.sheet_edits.proofs.Conditions.{err_ok, ok_same, unless_ok, none_of, other_way}
-use Rattle.sheet_edits.proofs.Verdicts.{same_name, quantity_is_row, quantity_append, first_user, missing_find, there_at, remove_by_users, remove_unknown}
+use Rattle.sheet_edits.proofs.Conditions.{err_ok, ok_same, unless_ok, none_of, other_way, same_name}
+use Rattle.sheet_edits.proofs.Named.{has_removed}
+use Rattle.sheet_edits.proofs.Correlated.{correlated_used, part, apart_after_removed}
+use Rattle.sheet_edits.proofs.Verdicts.{quantity_named, no_quantity, quantity_append, unused, all_unused, first_user, missing_find, remove_by_users, remove_unknown}
 
 module _ (n : List ℕ) where
   -- the row uses the name
   abbrev is_user : Row → Bool
   is_user row = list_any (bytes_eq n) (used_names row)
 
-  -- ---- other names
-  has_by : (t : Bool) (r : Row) (rs : List Row) (u : List ℕ) → is_named n r ≡ t → bytes_eq u n ≡ false → is_among (rows_without n rs) u ≡ is_among rs u
-      → is_among (cond t rs (r ∷ rows_without n rs)) u ≡ is_among (r ∷ rs) u
-  has_by true r rs u e f h = sym (ap (λ b. b || is_among rs u) (ap (bytes_eq u) (sym (same_name n (name_of r) e)) ∙ f))
-  has_by false r rs u e f h = ap (λ b. is_named u r || b) h
-
-  removed_has : (xs : List Row) (u : List ℕ) → bytes_eq u n ≡ false → is_among (rows_without n xs) u ≡ is_among xs u
-  removed_has [] u f = refl
-  removed_has (r ∷ rs) u f = has_by (is_named n r) r rs u refl f (removed_has rs u f)
-
+  -- ---- names
   less_by : (t : Bool) (r : Row) (rs : List Row) (u : List ℕ) → is_among (r ∷ rs) u ≡ false → is_among (rows_without n rs) u ≡ false
       → is_among (cond t rs (r ∷ rows_without n rs)) u ≡ false
   less_by true r rs u h g = (or_parts (is_named u r) (is_among rs u) h).1
@@ -84,7 +77,8 @@ module _ (n : List ℕ) where
   known_agree a b h row g = names_agree a b h (used_names row) g
 
   agree_removed : (sheet : List Row) → Agree sheet (rows_without n sheet)
-  agree_removed sheet u f = quantity_is_row sheet u ∙ sym (removed_has sheet u f) ∙ sym (quantity_is_row (rows_without n sheet) u)
+  agree_removed sheet u f =
+      quantity_named sheet u ∙ sym (has_removed (λ r. gives r u) u sheet n f) ∙ sym (quantity_named (rows_without n sheet) u)
 
   agree_more : (a b : List Row) (r : Row) → Agree a b → Agree (a ++ r ∷ []) (b ++ r ∷ [])
   agree_more a b r h u f =
@@ -92,7 +86,7 @@ module _ (n : List ℕ) where
 
   agree_without : (a : List Row) (r : Row) → n ≡ name_of r → Agree (a ++ r ∷ []) a
   agree_without a r e u f =
-      quantity_append a (r ∷ []) u ∙ ap (λ t. is_quantity_in a u || (t || false)) (ap (bytes_eq u) (sym e) ∙ f) ∙ or-false (is_quantity_in a u)
+      quantity_append a (r ∷ []) u ∙ ap (λ t. is_quantity_in a u || t) (no_quantity (r ∷ []) u (ap (λ m. bytes_eq u m || false) (sym e) ∙ ap (λ t. t || false) f)) ∙ or-false (is_quantity_in a u)
 
   -- ---- no row uses the name
   known_rest : (sheet rest : List Row) → list_any is_user rest ≡ false → list_all (are_known sheet) rest ≡ true → list_all (are_known (rows_without n sheet)) rest ≡ true
@@ -102,14 +96,25 @@ module _ (n : List ℕ) where
       (sym (known_agree sheet (rows_without n sheet) (agree_removed sheet) r (or_parts (is_user r) (list_any is_user rs) g).0) ∙ (and_parts (are_known sheet r) (list_all (are_known sheet) rs) h).0)
       (known_rest sheet rs (or_parts (is_user r) (list_any is_user rs) g).1 (and_parts (are_known sheet r) (list_all (are_known sheet) rs) h).1)
 
-  part_by : (p : Row → Bool) (t : Bool) (r : Row) (rs : List Row) → list_all p (r ∷ rs) ≡ true → list_all p (rows_without n rs) ≡ true
-      → list_all p (cond t rs (r ∷ rows_without n rs)) ≡ true
-  part_by p true r rs h g = (and_parts (p r) (list_all p rs) h).1
-  part_by p false r rs h g = and_from (p r) (list_all p (rows_without n rs)) (and_parts (p r) (list_all p rs) h).0 g
+  -- the inputs that a row correlates are other ones
+  correlatable_agree : (sheet : List Row) (us : List (List ℕ)) → list_any (bytes_eq n) us ≡ false
+      → list_all (is_correlatable_in sheet) us ≡ list_all (is_correlatable_in (rows_without n sheet)) us
+  correlatable_agree sheet [] g = refl
+  correlatable_agree sheet (u ∷ us) g =
+      let other = other_way n u (or_parts (bytes_eq n u) (list_any (bytes_eq n) us) g).0 in
+      let first = sym (has_removed is_correlatable u sheet n other) in
+      let rest = correlatable_agree sheet us (or_parts (bytes_eq n u) (list_any (bytes_eq n) us) g).1 in
+      λ j. first j && rest j
 
-  part : (p : Row → Bool) (xs : List Row) → list_all p xs ≡ true → list_all p (rows_without n xs) ≡ true
-  part p [] h = refl
-  part p (r ∷ rs) h = part_by p (is_named n r) r rs h (part p rs (and_parts (p r) (list_all p rs) h).1)
+  correlatable_rest : (sheet rest : List Row) → list_any is_user rest ≡ false → list_all (are_correlatable sheet) rest ≡ true
+      → list_all (are_correlatable (rows_without n sheet)) rest ≡ true
+  correlatable_rest sheet [] g h = refl
+  correlatable_rest sheet (r ∷ rs) g h =
+      let free = or_parts (is_user r) (list_any is_user rs) g in
+      let both = and_parts (are_correlatable sheet r) (list_all (are_correlatable sheet) rs) h in
+      and_from (are_correlatable (rows_without n sheet) r) (list_all (are_correlatable (rows_without n sheet)) rs)
+      (sym (ap (λ b. b && not (is_some (repeated_name r))) (correlatable_agree sheet (correlated_names r) (correlated_used r n free.0))) ∙ both.0)
+      (correlatable_rest sheet rs free.1 both.1)
 
   earlier_agree : (a b rest : List Row) → Agree a b → list_any is_user rest ≡ false → are_earlier a rest ≡ are_earlier b rest
   earlier_agree a b [] h g = refl
@@ -133,34 +138,16 @@ module _ (n : List ℕ) where
       earlier_by before (is_named n r) r rs refl free h
       (earlier_removed (before ++ r ∷ []) rs free (and_parts (are_known before r) (are_earlier (before ++ r ∷ []) rs) h).1)
 
-  -- ---- a row that knows its names in rows without n does not use n
-  unused_by : (a : List Row) (u : List ℕ) (t : Bool) → bytes_eq n u ≡ t → is_quantity_in a n ≡ false → is_quantity_in a u ≡ true → t ≡ false
-  unused_by a u false e h g = refl
-  unused_by a u true e h g = absurd (true≢false (sym g ∙ ap (is_quantity_in a) (sym (same_name n u e)) ∙ h))
-
-  unused : (a : List Row) (us : List (List ℕ)) → is_quantity_in a n ≡ false → list_all (is_quantity_in a) us ≡ true → list_any (bytes_eq n) us ≡ false
-  unused a [] h g = refl
-  unused a (u ∷ us) h g =
-      let first = unused_by a u (bytes_eq n u) refl h (and_parts (is_quantity_in a u) (list_all (is_quantity_in a) us) g).0 in
-      let rest = unused a us h (and_parts (is_quantity_in a u) (list_all (is_quantity_in a) us) g).1 in
-      λ j. first j || rest j
-
-  all_unused : (a rest : List Row) → is_quantity_in a n ≡ false → list_all (are_known a) rest ≡ true → list_any is_user rest ≡ false
-  all_unused a [] h g = refl
-  all_unused a (r ∷ rs) h g =
-      let first = unused a (used_names r) h (and_parts (are_known a r) (list_all (are_known a) rs) g).0 in
-      let rest = all_unused a rs h (and_parts (are_known a r) (list_all (are_known a) rs) g).1 in
-      λ j. first j || rest j
-
+  -- ---- the users
   users_by : (a before : List Row) (t : Bool) (r : Row) (rs : List Row) → is_named n r ≡ t → is_quantity_in a n ≡ false → is_quantity_in before n ≡ false
       → are_known before r ≡ true → list_all (are_known a) (cond t rs (r ∷ rows_without n rs)) ≡ true
       → (is_named n r ≡ false → list_all (are_known a) (rows_without n rs) ≡ true → list_any is_user rs ≡ false) → list_any is_user (r ∷ rs) ≡ false
   users_by a before true r rs e h g k m rest =
-      let first = unused before (used_names r) g k in
-      let others = all_unused a rs h m in
+      let first = unused before n (used_names r) g k in
+      let others = all_unused a n rs h m in
       λ j. first j || others j
   users_by a before false r rs e h g k m rest =
-      let first = unused a (used_names r) h (and_parts (are_known a r) (list_all (are_known a) (rows_without n rs)) m).0 in
+      let first = unused a n (used_names r) h (and_parts (are_known a r) (list_all (are_known a) (rows_without n rs)) m).0 in
       let others = rest e (and_parts (are_known a r) (list_all (are_known a) (rows_without n rs)) m).1 in
       λ j. first j || others j
 
@@ -169,48 +156,64 @@ module _ (n : List ℕ) where
   no_users a before [] h g k m = refl
   no_users a before (r ∷ rs) h g k m =
       let later : is_named n r ≡ false → is_quantity_in (before ++ r ∷ []) n ≡ false =
-      λ e. quantity_append before (r ∷ []) n ∙ (λ j. g j || (e j || false)) in
+      λ e. quantity_append before (r ∷ []) n ∙ (λ j. g j || no_quantity (r ∷ []) n (ap (λ t. t || false) e) j) in
       users_by a before (is_named n r) r rs refl h g (and_parts (are_known before r) (are_earlier (before ++ r ∷ []) rs) k).0 m
       (λ e. no_users a (before ++ r ∷ []) rs h (later e) (and_parts (are_known before r) (are_earlier (before ++ r ∷ []) rs) k).1)
+
+found_any : {X : Type 0} (p : X → Bool) (xs : List X) → is_some (find p xs) ≡ list_any p xs
+found_any p [] = refl
+found_any p (x ∷ xs) = by (p x) ∙ ap (λ b. p x || b) (found_any p xs)
+  where
+    by : (t : Bool) → is_some (cond t (Some x) (find p xs)) ≡ (t || is_some (find p xs))
+    by true = refl
+    by false = refl
 
 module _ (sheet : Sheet) (n : List ℕ) where
   none_mapped : (f : Option Row) → option_map name_of f ≡ None → f ≡ None
   none_mapped None h = refl
   none_mapped (Some r) h = absurd (true≢false (ap is_some h))
 
-  remove_parts : (edited : Sheet) (p : Option ℕ) → place_of sheet n ≡ p → verdict_remove sheet n ≡ Ok edited
-      → (has_row sheet n ≡ true) × (find (is_user n) sheet.rows ≡ None) × (removed n sheet ≡ edited)
-  remove_parts edited None e h = absurd (err_ok (sym (remove_unknown sheet n e) ∙ h))
-  remove_parts edited (Some at) e h =
-      let free = unless_ok (first_user sheet n) InUse (Ok (removed n sheet)) edited (sym (remove_by_users sheet n at e) ∙ h) in
-      (there_at (is_named n) sheet.rows at e, none_mapped (find (is_user n) sheet.rows) free.0, ok_same free.1)
+  there_by : (edited : Sheet) (f : Option Row) → find (is_named n) sheet.rows ≡ f → verdict_on_removal sheet n f ≡ Ok edited → has_row sheet n ≡ true
+  there_by edited None e h = absurd (err_ok h)
+  there_by edited (Some r) e h = sym (found_any (is_named n) sheet.rows) ∙ ap is_some e
 
   pub remove_there : (edited : Sheet) → verdict_remove sheet n ≡ Ok edited → has_row sheet n ≡ true
-  remove_there edited h = (remove_parts edited (place_of sheet n) refl h).0
-
-  complete_by : (p : Option ℕ) → place_of sheet n ≡ p → has_row sheet n ≡ true → find (is_user n) sheet.rows ≡ None → verdict_remove sheet n ≡ Ok (removed n sheet)
-  complete_by None e there free = absurd (true≢false (sym there ∙ sym (position-any (is_named n) sheet.rows) ∙ ap is_some e))
-  complete_by (Some at) e there free = remove_by_users sheet n at e ∙ ap (λ f. unless (option_map name_of f) InUse (Ok (removed n sheet))) free
+  remove_there edited h = there_by edited (find (is_named n) sheet.rows) refl h
 
   module _ (whole : IsWellFormed sheet) where
+    remove_parts : (edited : Sheet) (p : Option ℕ) → place_of sheet n ≡ p → verdict_remove sheet n ≡ Ok edited
+        → (find (is_user n) sheet.rows ≡ None) × (removed n sheet ≡ edited)
+    remove_parts edited None e h = absurd (err_ok (sym (remove_unknown sheet n e) ∙ h))
+    remove_parts edited (Some at) e h =
+        let free = unless_ok (first_user sheet n) InUse (Ok (removed n sheet)) edited (sym (remove_by_users sheet n at whole.once whole.known e) ∙ h) in
+        (none_mapped (find (is_user n) sheet.rows) free.0, ok_same free.1)
+
+    complete_by : (p : Option ℕ) → place_of sheet n ≡ p → has_row sheet n ≡ true → find (is_user n) sheet.rows ≡ None → verdict_remove sheet n ≡ Ok (removed n sheet)
+    complete_by None e there free = absurd (true≢false (sym there ∙ sym (position-any (is_named n) sheet.rows) ∙ ap is_some e))
+    complete_by (Some at) e there free =
+        remove_by_users sheet n at whole.once whole.known e ∙ ap (λ f. unless (option_map name_of f) InUse (Ok (removed n sheet))) free
+
     pub remove_accepted : (edited : Sheet) → verdict_remove sheet n ≡ Ok edited → IsAccepted edited (removed n sheet)
     remove_accepted edited h =
         let parts = remove_parts edited (place_of sheet n) refl h in
-        let free = none_of (is_user n) sheet.rows parts.1 in
+        let free = none_of (is_user n) sheet.rows parts.0 in
         record {
-          is = sym parts.2;
+          is = sym parts.1;
           well_formed =
-              subst IsWellFormed parts.2
+              subst IsWellFormed parts.1
               (record {
                 limit = omega (arith, whole.limit, length_removed n sheet.rows);
                 once = once_removed n sheet.rows whole.once;
                 known = part n (are_known (rows_without n sheet.rows)) sheet.rows (known_rest n sheet.rows sheet.rows free whole.known);
                 earlier = earlier_removed n [] sheet.rows free whole.earlier;
+                correlatable =
+                    part n (are_correlatable (rows_without n sheet.rows)) sheet.rows (correlatable_rest n sheet.rows sheet.rows free whole.correlatable);
+                apart = apart_after_removed n sheet.rows whole.apart;
               });
         }
 
     pub remove_complete : has_row sheet n ≡ true → IsWellFormed (removed n sheet) → verdict_remove sheet n ≡ Ok (removed n sheet)
     remove_complete there edited =
-        let lacks : is_quantity_in (rows_without n sheet.rows) n ≡ false = quantity_is_row (rows_without n sheet.rows) n ∙ gone n sheet.rows whole.once in
+        let lacks : is_quantity_in (rows_without n sheet.rows) n ≡ false = no_quantity (rows_without n sheet.rows) n (gone n sheet.rows whole.once) in
         complete_by (place_of sheet n) refl there
         (missing_find (is_user n) sheet.rows (no_users n (rows_without n sheet.rows) [] sheet.rows lacks refl whole.earlier edited.known))

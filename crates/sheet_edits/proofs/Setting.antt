@@ -1,25 +1,36 @@
 -- A row that is set leaves a well-formed sheet well formed, and is refused only where it does not.
-use Rattle.std.proofs.Common.{◌≡◌, ℕ, suc, Bool, true, false, ◌||◌, ◌&&◌, cond, not, List, [], ◌∷◌, ◌++◌, length, Ok, Err, refl, sym, ap, ◌∙◌, subst, arith, append_assoc, true≢false}
-use Rattle.std.specs.Prelude.{bytes_eq, find}
+use Rattle.std.proofs.Common.{◌≡◌, ℕ, suc, Bool, true, false, ◌||◌, ◌&&◌, cond, not, List, [], ◌∷◌, ◌++◌, length, Option, None, Some, is_some, Ok, Err, refl, sym, ap, ◌∙◌, subst, arith, append_assoc, true≢false}
+use Rattle.std.specs.Prelude.{find}
 use Rattle.std.specs.Option.{option_map}
-use Rattle.std.specs.List.{list_all}
+use Rattle.std.specs.List.{list_any, list_all}
 use Rattle.std.proofs.lemmas.List.{append-nil}
-use Rattle.std.proofs.lemmas.Bool.{and_parts, and_from}
-use Rattle.sheet_rows.specs.Rows.{Row, Sheet, name_of, used_names}
-use Rattle.sheet_rows.specs.declared.edit_fault.EditFault.TheVariants.{Unknown, NotEarlier, InUse}
-use Rattle.sheet_edits.specs.Sheets.{Verdict, IsWellFormed, IsAccepted, is_named, is_among, has_row, is_quantity_in, are_known, are_named_once, are_earlier, rows_with, set_row, rows_before, unless, first_unknown, first_not_earlier, is_left_without, verdict_on_set, verdict_set}
-use Rattle.sheet_edits.proofs.Conditions.{ok_same, unless_ok, cond_err, none_all, all_none, all_more}
-use Rattle.sheet_edits.proofs.Verdicts.{same_name, named_itself, list_all_agree, quantity_append, set_has, set_quantity, none_left}
+use Rattle.std.proofs.lemmas.Bool.{and_parts, and_from, and_right, or_parts, or_left, or_right, not_from_true, not_from_false}
+use Rattle.sheet_rows.specs.Rows.{Row, Sheet, name_of, used_names, gives}
+use Rattle.sheet_rows.specs.declared.edit_fault.EditFault.TheVariants.{Unknown, InUse}
+use Rattle.sheet_edits.specs.Sheets.{IsWellFormed, IsAccepted, is_named, is_among, has_row, is_quantity_in, are_known, are_correlatable, are_apart, are_named_once, are_earlier, rows_with, set_row, rows_before, unless, is_left_without, unless_left, verdict_on_set, verdict_set}
+use Rattle.sheet_edits.proofs.Conditions.{ok_same, unless_ok, cond_err, none_of, all_two, all_both, found_of_none, same_name, named_itself}
+use Rattle.sheet_edits.proofs.Named.{once_head, once_tail}
+use Rattle.sheet_edits.proofs.Correlated.{apart_after_set}
+use Rattle.sheet_edits.proofs.Verdicts.{quantity_append, quantity_last, last_named, set_has, set_known, uses_ok, ok_uses}
 
--- rows before which the same names stand
-pub earlier_same : (a b rs : List Row) → ((n : List ℕ) → is_quantity_in a n ≡ is_quantity_in b n) → are_earlier a rs ≡ are_earlier b rs
-earlier_same a b [] h = refl
-earlier_same a b (r ∷ rs) h =
-    let more : (n : List ℕ) → is_quantity_in (a ++ r ∷ []) n ≡ is_quantity_in (b ++ r ∷ []) n =
-    λ n. quantity_append a (r ∷ []) n ∙ ap (λ t. t || is_quantity_in (r ∷ []) n) (h n) ∙ sym (quantity_append b (r ∷ []) n) in
-    let rest = earlier_same (a ++ r ∷ []) (b ++ r ∷ []) rs more in
-    let first = list_all_agree (is_quantity_in a) (is_quantity_in b) h (used_names r) in
-    λ j. first j && rest j
+-- rows before which the names stand that stood there and are quantities still
+still_earlier : (all a b rs : List Row) → ((n : List ℕ) → is_quantity_in a n ≡ true → is_quantity_in all n ≡ true → is_quantity_in b n ≡ true)
+    → are_earlier a rs ≡ true → list_all (are_known all) rs ≡ true → are_earlier b rs ≡ true
+still_earlier all a b [] h e k = refl
+still_earlier all a b (r ∷ rs) h e k =
+    let earlier = and_parts (are_known a r) (are_earlier (a ++ r ∷ []) rs) e in
+    let known = and_parts (are_known all r) (list_all (are_known all) rs) k in
+    and_from (are_known b r) (are_earlier (b ++ r ∷ []) rs)
+    (all_two (is_quantity_in a) (is_quantity_in all) (is_quantity_in b) h (used_names r) earlier.0 known.0)
+    (still_earlier all (a ++ r ∷ []) (b ++ r ∷ []) rs
+    (λ n f g. quantity_append b (r ∷ []) n
+    ∙ in_both a b all n (is_quantity_in (r ∷ []) n) (h n) (is_quantity_in a n) refl (sym (quantity_append a (r ∷ []) n) ∙ f) g)
+    earlier.1 known.1)
+  where
+    in_both : (a b all : List Row) (n : List ℕ) (u : Bool) → (is_quantity_in a n ≡ true → is_quantity_in all n ≡ true → is_quantity_in b n ≡ true)
+        → (t : Bool) → is_quantity_in a n ≡ t → (t || u) ≡ true → is_quantity_in all n ≡ true → (is_quantity_in b n || u) ≡ true
+    in_both a b all n u h true e f g = or_left (is_quantity_in b n) u (h e g)
+    in_both a b all n u h false e f g = or_right (is_quantity_in b n) u f
 
 module _ (row : Row) where
   abbrev own : List ℕ
@@ -44,24 +55,42 @@ module _ (row : Row) where
   once_set [] = refl
   once_set (r ∷ rs) = once_by (is_named own r) r rs refl (once_set rs)
 
-  known_same : (sheet : List Row) (other : Row) → are_known (rows_with row sheet) other ≡ are_known sheet other
-  known_same sheet other = list_all_agree (is_quantity_in (rows_with row sheet)) (is_quantity_in sheet) (set_quantity sheet row) (used_names other)
+  -- ---- the other rows are not left without
+  module _ (good : Row → Bool) where
+    not_left : (t u : Bool) → (not t && not u) ≡ false → (t || u) ≡ true
+    not_left true u h = refl
+    not_left false true h = refl
+    not_left false false h = absurd (true≢false h)
 
-  known_by : (sheet : List Row) (t : Bool) (r : Row) (rs rs' : List Row) → are_known (rows_with row sheet) row ≡ true
-      → are_known sheet r ≡ true → list_all (are_known sheet) rs ≡ true → list_all (are_known (rows_with row sheet)) rs' ≡ true
-      → list_all (are_known (rows_with row sheet)) (cond t (row ∷ rs) (r ∷ rs')) ≡ true
-  known_by sheet true r rs rs' k h g i =
-      and_from (are_known (rows_with row sheet) row) (list_all (are_known (rows_with row sheet)) rs) k
-      (all_more (are_known sheet) (are_known (rows_with row sheet)) (λ o m. known_same sheet o ∙ m) rs g)
-  known_by sheet false r rs rs' k h g i =
-      and_from (are_known (rows_with row sheet) r) (list_all (are_known (rows_with row sheet)) rs') (known_same sheet r ∙ h) i
+    own_or_good : (rest : List Row) → list_any (λ o. not (is_named own o) && not (good o)) rest ≡ false → list_all (λ o. is_named own o || good o) rest ≡ true
+    own_or_good [] h = refl
+    own_or_good (r ∷ rs) h =
+        let both = or_parts (not (is_named own r) && not (good r)) (list_any (λ o. not (is_named own o) && not (good o)) rs) h in
+        and_from (is_named own r || good r) (list_all (λ o. is_named own o || good o) rs) (not_left (is_named own r) (good r) both.0) (own_or_good rs both.1)
 
-  known_set : (sheet rest : List Row) → are_known (rows_with row sheet) row ≡ true → list_all (are_known sheet) rest ≡ true
-      → list_all (are_known (rows_with row sheet)) (rows_with row rest) ≡ true
-  known_set sheet [] k h = refl
-  known_set sheet (r ∷ rs) k h =
-      let g = (and_parts (are_known sheet r) (list_all (are_known sheet) rs) h).1 in
-      known_by sheet (is_named own r) r rs (rows_with row rs) k (and_parts (are_known sheet r) (list_all (are_known sheet) rs) h).0 g (known_set sheet rs k g)
+    other_names : (rest : List Row) → is_among rest own ≡ false → list_all (λ o. is_named own o || good o) rest ≡ true → list_all good rest ≡ true
+    other_names [] h g = refl
+    other_names (r ∷ rs) h g =
+        let apart = or_parts (is_named own r) (is_among rs own) h in
+        let both = and_parts (is_named own r || good r) (list_all (λ o. is_named own o || good o) rs) g in
+        and_from (good r) (list_all good rs) (sym (ap (λ t. t || good r) apart.0) ∙ both.0) (other_names rs apart.1 both.1)
+
+    good_by : (t : Bool) (r : Row) (rs rs' : List Row) → is_named own r ≡ t → is_among rs (name_of r) ≡ false → good row ≡ true
+        → (list_all (λ o. is_named own o || good o) rs' ≡ true → list_all good rs' ≡ true)
+        → list_all (λ o. is_named own o || good o) (cond t (row ∷ rs) (r ∷ rs')) ≡ true → list_all good (cond t (row ∷ rs) (r ∷ rs')) ≡ true
+    good_by true r rs rs' e new itself rest h =
+        and_from (good row) (list_all good rs) itself
+        (other_names rs (ap (is_among rs) (same_name own (name_of r) e) ∙ new)
+        (and_parts (is_named own row || good row) (list_all (λ o. is_named own o || good o) rs) h).1)
+    good_by false r rs rs' e new itself rest h =
+        let both = and_parts (is_named own r || good r) (list_all (λ o. is_named own o || good o) rs') h in
+        and_from (good r) (list_all good rs') (sym (ap (λ t. t || good r) e) ∙ both.0) (rest both.1)
+
+    all_good : (rest : List Row) → are_named_once rest ≡ true → good row ≡ true
+        → list_all (λ o. is_named own o || good o) (rows_with row rest) ≡ true → list_all good (rows_with row rest) ≡ true
+    all_good [] h itself g = refl
+    all_good (r ∷ rs) h itself g =
+        good_by (is_named own r) r rs (rows_with row rs) refl (once_head r rs h) itself (all_good rs (once_tail r rs h) itself) g
 
   -- the row itself is among those of the edited sheet
   from_by : (p : Row → Bool) (t : Bool) (r : Row) (rs rs' : List Row) → (t || is_among rs own) ≡ true
@@ -74,10 +103,24 @@ module _ (row : Row) where
   known_from p (r ∷ rs) there h = from_by p (is_named own r) r rs (rows_with row rs) there (known_from p rs) h
 
   -- ---- the rows before
-  after_same : (before : List Row) (r : Row) → own ≡ name_of r → (n : List ℕ) → is_quantity_in (before ++ row ∷ []) n ≡ is_quantity_in (before ++ r ∷ []) n
-  after_same before r e n =
-      quantity_append before (row ∷ []) n ∙ ap (λ m. is_quantity_in before n || (bytes_eq n m || false)) e
-      ∙ sym (quantity_append before (r ∷ []) n)
+  -- the quantity of the old row is one of the new row, or no more
+  after_set : (all before : List Row) (r : Row) → own ≡ name_of r → (is_quantity_in all own ≡ gives row own) → (n : List ℕ)
+      → is_quantity_in (before ++ r ∷ []) n ≡ true → is_quantity_in all n ≡ true → is_quantity_in (before ++ row ∷ []) n ≡ true
+  after_set all before r e given n h g =
+      quantity_append before (row ∷ []) n
+      ∙ after_by all before r given n (is_named own r) (is_quantity_in before n) (is_named n r) refl refl refl e
+      (sym (ap (λ t. is_quantity_in before n || t) (last_named r n)) ∙ sym (quantity_append before (r ∷ []) n) ∙ h) g
+    where
+      after_by : (all before : List Row) (r : Row) → (is_quantity_in all own ≡ gives row own) → (n : List ℕ) (s t u : Bool)
+          → is_named own r ≡ s → is_quantity_in before n ≡ t → is_named n r ≡ u → own ≡ name_of r
+          → (is_quantity_in before n || (is_named n r && gives r n)) ≡ true → is_quantity_in all n ≡ true → (is_quantity_in before n || is_quantity_in (row ∷ []) n) ≡ true
+      after_by all before r given n s true u d e f same h g = or_left (is_quantity_in before n) (is_quantity_in (row ∷ []) n) e
+      after_by all before r given n s false true d e f same h g =
+          let at : n ≡ own = same_name n (name_of r) f ∙ sym same in
+          or_right (is_quantity_in before n) (is_quantity_in (row ∷ []) n)
+          (quantity_last row n ∙ ap (gives row) at ∙ sym given ∙ ap (is_quantity_in all) (sym at) ∙ g)
+      after_by all before r given n s false false d e f same h g =
+          absurd (true≢false (sym h ∙ (λ j. e j || (f j && gives r n))))
 
   here : (before rs : List Row) → are_known (before ++ rows_before own (row ∷ rs)) row ≡ are_known before row
   here before rs =
@@ -89,24 +132,28 @@ module _ (row : Row) where
       ap (λ b. are_known (before ++ cond b [] (r ∷ rows_before own rs)) row) e
       ∙ ap (λ rows. are_known rows row) (sym (append_assoc before (r ∷ []) (rows_before own rs)))
 
-  earlier_by : (before : List Row) (t : Bool) (r : Row) (rs : List Row) → is_named own r ≡ t → are_earlier before (r ∷ rs) ≡ true → (t || is_among rs own) ≡ true
-      → (is_among rs own ≡ true → are_known ((before ++ r ∷ []) ++ rows_before own (rows_with row rs)) row ≡ true → are_earlier (before ++ r ∷ []) (rows_with row rs) ≡ true)
-      → are_known (before ++ rows_before own (cond t (row ∷ rs) (r ∷ rows_with row rs))) row ≡ true
-      → are_earlier before (cond t (row ∷ rs) (r ∷ rows_with row rs)) ≡ true
-  earlier_by before true r rs e h there rest k =
-      and_from (are_known before row) (are_earlier (before ++ row ∷ []) rs) (sym (here before rs) ∙ k)
-      (earlier_same (before ++ row ∷ []) (before ++ r ∷ []) rs (after_same before r (same_name own (name_of r) e))
-      ∙ (and_parts (are_known before r) (are_earlier (before ++ r ∷ []) rs) h).1)
-  earlier_by before false r rs e h there rest k =
-      and_from (are_known before r) (are_earlier (before ++ r ∷ []) (rows_with row rs)) (and_parts (are_known before r) (are_earlier (before ++ r ∷ []) rs) h).0
-      (rest there (sym (there_later before (rows_with row rs) r e) ∙ k))
+  module _ (all : List Row) (given : is_quantity_in all own ≡ gives row own) where
+    earlier_by : (before : List Row) (t : Bool) (r : Row) (rs : List Row) → is_named own r ≡ t → are_earlier before (r ∷ rs) ≡ true → (t || is_among rs own) ≡ true
+        → (is_among rs own ≡ true → are_known ((before ++ r ∷ []) ++ rows_before own (rows_with row rs)) row ≡ true
+        → list_all (are_known all) (rows_with row rs) ≡ true → are_earlier (before ++ r ∷ []) (rows_with row rs) ≡ true)
+        → are_known (before ++ rows_before own (cond t (row ∷ rs) (r ∷ rows_with row rs))) row ≡ true
+        → list_all (are_known all) (cond t (row ∷ rs) (r ∷ rows_with row rs)) ≡ true
+        → are_earlier before (cond t (row ∷ rs) (r ∷ rows_with row rs)) ≡ true
+    earlier_by before true r rs e h there rest k m =
+        and_from (are_known before row) (are_earlier (before ++ row ∷ []) rs) (sym (here before rs) ∙ k)
+        (still_earlier all (before ++ r ∷ []) (before ++ row ∷ []) rs (after_set all before r (same_name own (name_of r) e) given)
+        (and_parts (are_known before r) (are_earlier (before ++ r ∷ []) rs) h).1 (and_parts (are_known all row) (list_all (are_known all) rs) m).1)
+    earlier_by before false r rs e h there rest k m =
+        and_from (are_known before r) (are_earlier (before ++ r ∷ []) (rows_with row rs)) (and_parts (are_known before r) (are_earlier (before ++ r ∷ []) rs) h).0
+        (rest there (sym (there_later before (rows_with row rs) r e) ∙ k) (and_parts (are_known all r) (list_all (are_known all) (rows_with row rs)) m).1)
 
-  earlier_set : (before rest : List Row) → are_earlier before rest ≡ true → is_among rest own ≡ true
-      → are_known (before ++ rows_before own (rows_with row rest)) row ≡ true → are_earlier before (rows_with row rest) ≡ true
-  earlier_set before [] h there k = refl
-  earlier_set before (r ∷ rs) h there k =
-      earlier_by before (is_named own r) r rs refl h there
-      (earlier_set (before ++ r ∷ []) rs (and_parts (are_known before r) (are_earlier (before ++ r ∷ []) rs) h).1) k
+    earlier_set : (before rest : List Row) → are_earlier before rest ≡ true → is_among rest own ≡ true
+        → are_known (before ++ rows_before own (rows_with row rest)) row ≡ true → list_all (are_known all) (rows_with row rest) ≡ true
+        → are_earlier before (rows_with row rest) ≡ true
+    earlier_set before [] h there k m = refl
+    earlier_set before (r ∷ rs) h there k m =
+        earlier_by before (is_named own r) r rs refl h there
+        (earlier_set (before ++ r ∷ []) rs (and_parts (are_known before r) (are_earlier (before ++ r ∷ []) rs) h).1) k m
 
   stands_by : (before : List Row) (t : Bool) (r : Row) (rs : List Row) → is_named own r ≡ t → (t || is_among rs own) ≡ true
       → (is_among rs own ≡ true → are_earlier (before ++ r ∷ []) (rows_with row rs) ≡ true → are_known ((before ++ r ∷ []) ++ rows_before own (rows_with row rs)) row ≡ true)
@@ -125,9 +172,6 @@ module _ (sheet : Sheet) (row : Row) where
   abbrev edited_rows : List Row
   edited_rows = rows_with row sheet.rows
 
-  abbrev in_use : Verdict
-  in_use = unless (option_map name_of (find (is_left_without (set_row row sheet) row) edited_rows)) InUse (Ok (set_row row sheet))
-
   set_parts : (edited : Sheet) → verdict_set sheet row ≡ Ok edited → (has_row sheet (name_of row) ≡ true) × (verdict_on_set (set_row row sheet) row ≡ Ok edited)
   set_parts edited h = cond_err (has_row sheet (name_of row)) (Unknown (name_of row)) (verdict_on_set (set_row row sheet) row) edited h
 
@@ -135,15 +179,26 @@ module _ (sheet : Sheet) (row : Row) where
   set_there edited h = (set_parts edited h).0
 
   module _ (whole : IsWellFormed sheet) where
+    abbrev good : Row → Bool
+    good o = are_known edited_rows o && are_correlatable edited_rows o
+
+    none_named : (f : Option Row) → option_map name_of f ≡ None → f ≡ None
+    none_named None h = refl
+    none_named (Some r) h = absurd (true≢false (ap is_some h))
+
     pub set_accepted : (edited : Sheet) → verdict_set sheet row ≡ Ok edited → IsAccepted edited (set_row row sheet)
     set_accepted edited h =
         let there = set_parts edited h in
-        let known = unless_ok (first_unknown (set_row row sheet) row) Unknown (unless (first_not_earlier (set_row row sheet) row) NotEarlier in_use) edited there.1 in
-        let earlier = unless_ok (first_not_earlier (set_row row sheet) row) NotEarlier in_use edited known.1 in
-        let free = unless_ok (option_map name_of (find (is_left_without (set_row row sheet) row) edited_rows)) InUse (Ok (set_row row sheet)) edited earlier.1 in
-        let same : set_row row sheet ≡ edited = ok_same free.1 in
-        let all_known = none_all (is_quantity_in edited_rows) (used_names row) known.0 in
-        let stands = none_all (is_quantity_in (rows_before (name_of row) edited_rows)) (used_names row) earlier.0 in
+        let free = uses_ok (set_row row sheet) row (unless_left (set_row row sheet) row) edited there.1 in
+        let users = unless_ok (option_map name_of (find (is_left_without (set_row row sheet) row) edited_rows)) InUse (Ok (set_row row sheet)) edited free.rest in
+        let same : set_row row sheet ≡ edited = ok_same users.1 in
+        let left = none_of (is_left_without (set_row row sheet) row) edited_rows
+        (none_named (find (is_left_without (set_row row sheet) row) edited_rows) users.0) in
+        let both = and_parts (list_all (are_known edited_rows) edited_rows) (list_all (are_correlatable edited_rows) edited_rows)
+        (sym (all_both (are_known edited_rows) (are_correlatable edited_rows) edited_rows)
+        ∙ all_good row good sheet.rows whole.once (and_from (are_known edited_rows row) (are_correlatable edited_rows row) free.known free.correlatable)
+        (own_or_good row good edited_rows left)) in
+        let given = set_known sheet row whole.once there.0 (name_of row) ∙ ap (λ b. cond b (gives row (name_of row)) (is_quantity_in sheet.rows (name_of row))) (named_itself (name_of row)) in
         record {
           is = sym same;
           well_formed =
@@ -151,16 +206,23 @@ module _ (sheet : Sheet) (row : Row) where
               (record {
                 limit = omega (arith, whole.limit, length_set row sheet.rows);
                 once = once_set row sheet.rows ∙ whole.once;
-                known = known_set row sheet.rows sheet.rows all_known whole.known;
-                earlier = earlier_set row [] sheet.rows whole.earlier there.0 stands;
+                known = both.0;
+                earlier = earlier_set row edited_rows given [] sheet.rows whole.earlier there.0 free.earlier both.0;
+                correlatable = both.1;
+                apart = apart_after_set row sheet.rows whole.apart free.apart;
               });
         }
 
     pub set_complete : has_row sheet (name_of row) ≡ true → IsWellFormed (set_row row sheet) → verdict_set sheet row ≡ Ok (set_row row sheet)
     set_complete there edited =
-        let known = known_from row (are_known edited_rows) sheet.rows there edited.known in
         let stands = stands_from row [] sheet.rows there edited.earlier in
-        let no_unknown = all_none (is_quantity_in edited_rows) (used_names row) known in
-        let none_later = all_none (is_quantity_in (rows_before (name_of row) edited_rows)) (used_names row) stands in
-        let free = none_left sheet row sheet.rows whole.known in
-        λ j. cond (there j) (unless (no_unknown j) Unknown (unless (none_later j) NotEarlier (unless (option_map name_of (free j)) InUse (Ok (set_row row sheet))))) (Err (Unknown (name_of row)))
+        let free = ok_uses (set_row row sheet) row (unless_left (set_row row sheet) row) (known_from row (are_known edited_rows) sheet.rows there edited.known) stands
+        (known_from row (are_correlatable edited_rows) sheet.rows there edited.correlatable) (known_from row (are_apart edited_rows) sheet.rows there edited.apart) in
+        let users : find (is_left_without (set_row row sheet) row) edited_rows ≡ None =
+        found_of_none (is_left_without (set_row row sheet) row) edited_rows
+        (all_two (are_known edited_rows) (are_correlatable edited_rows) (λ o. not (is_left_without (set_row row sheet) row o))
+        (λ o k c. not_from_false (is_left_without (set_row row sheet) row o)
+        (and_right (not (is_named (name_of row) o)) (not (good o)) (not_from_true (good o) (and_from (are_known edited_rows o) (are_correlatable edited_rows o) k c))))
+        edited_rows edited.known edited.correlatable) in
+        ap (λ t. cond t (verdict_on_set (set_row row sheet) row) (Err (Unknown (name_of row)))) there ∙ free
+        ∙ ap (λ found. unless (option_map name_of found) InUse (Ok (set_row row sheet))) users

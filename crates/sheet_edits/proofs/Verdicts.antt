@@ -1,26 +1,20 @@
 -- The verdicts, by the places of names.
-use Rattle.std.proofs.Common.{◌≡◌, ℕ, zero, suc, Bool, true, false, ◌||◌, ◌&&◌, cond, not, nat_le, List, [], ◌∷◌, ◌++◌, length, take, Option, None, Some, Ok, Err, is_some, refl, sym, ap, ◌∙◌, true≢false, ◌<◌, arith, inl, inr}
-use Rattle.std.proofs.lemmas.Bool.Decides.{leb_tells}
+use Rattle.std.proofs.Common.{◌≡◌, ℕ, zero, suc, Bool, true, false, ◌||◌, ◌&&◌, cond, not, nat_le, List, [], ◌∷◌, ◌++◌, length, take, Option, None, Some, Ok, Err, is_some, refl, sym, ap, ◌∙◌, true≢false, ◌<◌, arith}
 use Rattle.std.specs.Prelude.{position, find, bytes_eq, remove, slice_get, slice_set as set}
 use Rattle.std.specs.List.{list_any, list_all}
-use Rattle.std.specs.Option.{option_map}
-use Rattle.std.proofs.lemmas.Slice.Eq.{bytes_eq-Decides}
+use Rattle.std.specs.Option.{option_map, option_or}
 use Rattle.std.proofs.lemmas.List.{take_all, append_assoc}
 use Rattle.std.proofs.lemmas.List.Folds.{list_any-append}
-use Rattle.sheet_rows.specs.declared.edit_fault.EditFault.TheVariants.{RowsFull, Duplicate, Unknown, NotEarlier, InUse}
-use Rattle.sheet_rows.specs.Rows.{Row, Sheet, name_of, used_names, names_used, quantities_of}
-use Rattle.sheet_edits.specs.Sheets.{Verdict, is_named, is_among, has_row, quantities_in, is_quantity_in, has_quantity, are_known, row_limit, added, rows_with, set_row, rows_without, removed, rows_before, unless, unless_uses_fail, verdict_add, verdict_set, verdict_on_set, is_left_without, is_user_of, verdict_remove, verdict_on_removal}
-use Rattle.sheet_edits.specs.Places.{place_of, is_known_with, stands_before}
+use Rattle.sheet_rows.specs.declared.edit_fault.EditFault.TheVariants.{RowsFull, Duplicate, Unknown, NotEarlier, NotCorrelatable, AlreadyCorrelated, InUse}
+use Rattle.sheet_rows.specs.Rows.{Row, Sheet, Given, Readings, Correlation, Formula, name_of, used_names, quantities_of, gives, correlated_names, is_correlatable}
+use Rattle.sheet_edits.specs.Sheets.{Verdict, is_named, is_among, has_row, quantities_in, is_quantity_in, has_quantity, is_correlatable_in, repeated_name, is_correlated_apart, are_named_once, are_known, are_correlatable, are_apart, first_unknown, first_not_earlier, first_not_correlatable, first_correlated, row_limit, added, rows_with, set_row, rows_without, removed, rows_before, unless, unless_uses_fail, unless_left, verdict_add, verdict_set, verdict_on_set, is_user_of, verdict_remove, verdict_on_removal}
+use Rattle.sheet_edits.specs.Places.{place_of, is_known_with, is_correlatable_with, stands_before, unless_names_fail}
 use Rattle.std.proofs.Math.Bool.{or-false}
-use Rattle.std.proofs.lemmas.Bool.{and_parts, or_parts}
-use Rattle.sheet_edits.proofs.Positions.{position-any, before-any, IsFirstAt, first_at, within, find_agree, find_distinct}
-
--- ---- names
-pub same_name : (n m : List ℕ) → bytes_eq n m ≡ true → n ≡ m
-same_name n m h = (bytes_eq-Decides n m).0 h
-
-pub named_itself : (n : List ℕ) → bytes_eq n n ≡ true
-named_itself n = (bytes_eq-Decides n n).1 refl
+use Rattle.std.proofs.lemmas.Bool.{lt-leb, and_parts, and_right, or_parts}
+use Rattle.sheet_edits.proofs.Conditions.{unless_ok, none_all, all_none, same_name, named_itself}
+use Rattle.sheet_edits.proofs.Named.{holds, has_none, has_found, has_before, has_added, has_set}
+use Rattle.sheet_edits.proofs.Correlated.{apart_added, apart_set, correlatable_allowed, allowed_correlatable, apart_allowed, allowed_apart}
+use Rattle.sheet_edits.proofs.Positions.{position-any, before-any, IsFirstAt, first_at, find_agree, find_distinct}
 
 -- ---- quantities
 quantities_append : (xs ys : List Row) → quantities_in (xs ++ ys) ≡ quantities_in xs ++ quantities_in ys
@@ -32,13 +26,37 @@ quantities_append (r ∷ rs) ys =
 pub quantity_append : (xs ys : List Row) (n : List ℕ) → is_quantity_in (xs ++ ys) n ≡ (is_quantity_in xs n || is_quantity_in ys n)
 quantity_append xs ys n = ap (list_any (bytes_eq n)) (quantities_append xs ys) ∙ list_any-append (bytes_eq n) (quantities_in xs) (quantities_in ys)
 
--- each row of today has one quantity, its own name
-pub quantity_is_row : (xs : List Row) (n : List ℕ) → is_quantity_in xs n ≡ is_among xs n
-quantity_is_row [] n = refl
-quantity_is_row (r ∷ rs) n = ap (λ b. bytes_eq n (name_of r) || b) (quantity_is_row rs n)
+own_given : (t : Bool) → (t || false) ≡ (t && (t || false))
+own_given true = refl
+own_given false = refl
 
-known_is : (sheet : Sheet) (own n : List ℕ) → is_known_with sheet own n ≡ (has_row sheet n || bytes_eq n own)
-known_is sheet own n = ap (λ b. b || bytes_eq n own) (position-any (is_named n) sheet.rows)
+-- a row gives no other name than its own
+gives_named : (r : Row) (n : List ℕ) → gives r n ≡ (is_named n r && gives r n)
+gives_named (Given name estimate shape dof) n = own_given (bytes_eq n name)
+gives_named (Readings name table) n = own_given (bytes_eq n name)
+gives_named (Correlation name first second coefficient) n = sym (and_right (bytes_eq n name) false refl)
+gives_named (Formula name formula) n = own_given (bytes_eq n name)
+
+-- the row of the name gives it
+pub quantity_named : (xs : List Row) (n : List ℕ) → is_quantity_in xs n ≡ list_any (λ r. is_named n r && gives r n) xs
+quantity_named [] n = refl
+quantity_named (r ∷ rs) n =
+    let first = gives_named r n in
+    let rest = quantity_named rs n in
+    list_any-append (bytes_eq n) (quantities_of r) (quantities_in rs) ∙ (λ j. first j || rest j)
+
+-- the quantities of one row
+pub quantity_last : (r : Row) (n : List ℕ) → is_quantity_in (r ∷ []) n ≡ gives r n
+quantity_last r n = list_any-append (bytes_eq n) (quantities_of r) [] ∙ or-false (gives r n)
+
+pub last_named : (r : Row) (n : List ℕ) → is_quantity_in (r ∷ []) n ≡ (is_named n r && gives r n)
+last_named r n = quantity_last r n ∙ gives_named r n
+
+pub quantity_found : (xs : List Row) (n : List ℕ) → are_named_once xs ≡ true → is_quantity_in xs n ≡ holds (λ r. gives r n) n (find (is_named n) xs)
+quantity_found xs n once = quantity_named xs n ∙ has_found (λ r. gives r n) n xs once
+
+pub no_quantity : (xs : List Row) (n : List ℕ) → is_among xs n ≡ false → is_quantity_in xs n ≡ false
+no_quantity xs n h = quantity_named xs n ∙ has_none (λ r. gives r n) n xs h
 
 -- ---- the row added
 -- rows, and one after them
@@ -48,8 +66,10 @@ with_last xs row = xs ++ row ∷ []
 pub added_has : (sheet : List Row) (row : Row) (n : List ℕ) → is_among (with_last sheet row) n ≡ (is_among sheet n || bytes_eq n (name_of row))
 added_has sheet row n = list_any-append (is_named n) sheet (row ∷ []) ∙ ap (λ b. is_among sheet n || b) (or-false (bytes_eq n (name_of row)))
 
-added_known : (sheet : Sheet) (row : Row) (n : List ℕ) → has_quantity (added sheet row) n ≡ is_known_with sheet (name_of row) n
-added_known sheet row n = quantity_is_row (with_last sheet.rows row) n ∙ added_has sheet.rows row n ∙ sym (known_is sheet (name_of row) n)
+added_known : (sheet : Sheet) (row : Row) → has_row sheet (name_of row) ≡ false → (n : List ℕ) → has_quantity (added sheet row) n ≡ is_known_with sheet row n
+added_known sheet row new n =
+    quantity_named (with_last sheet.rows row) n ∙ has_added (λ r. gives r n) n sheet.rows row new
+    ∙ ap (cond (is_named n row) (gives row n)) (sym (quantity_named sheet.rows n))
 
 pub before_added : (sheet : List Row) (row : Row) → is_among sheet (name_of row) ≡ false → rows_before (name_of row) (with_last sheet row) ≡ sheet
 before_added [] row h = ap (λ b. cond b [] (row ∷ [])) (named_itself (name_of row))
@@ -57,33 +77,78 @@ before_added (r ∷ rs) row h =
     ap (λ b. cond b [] (r ∷ rows_before (name_of row) (with_last rs row))) (or_parts _ _ h).0
     ∙ ap (λ xs. r ∷ xs) (before_added rs row (or_parts (is_named (name_of row) r) _ h).1)
 
-stands_in : (sheet : Sheet) (at : ℕ) (n : List ℕ) → is_quantity_in (take at sheet.rows) n ≡ stands_before sheet at n
-stands_in sheet at n = quantity_is_row (take at sheet.rows) n ∙ sym (before-any (is_named n) sheet.rows at)
+stands_in : (sheet : Sheet) (at : ℕ) → are_named_once sheet.rows ≡ true → (n : List ℕ) → is_quantity_in (take at sheet.rows) n ≡ stands_before sheet at n
+stands_in sheet at once n =
+    let before = sym (before-any (is_named n) sheet.rows at) in
+    let there = sym (quantity_named sheet.rows n) in
+    quantity_named (take at sheet.rows) n ∙ has_before (λ r. gives r n) n sheet.rows at once ∙ (λ j. before j && there j)
 
-added_stands : (sheet : Sheet) (row : Row) → has_row sheet (name_of row) ≡ false → (n : List ℕ)
+added_stands : (sheet : Sheet) (row : Row) → are_named_once sheet.rows ≡ true → has_row sheet (name_of row) ≡ false → (n : List ℕ)
     → is_quantity_in (rows_before (name_of row) (with_last sheet.rows row)) n ≡ stands_before sheet (length sheet.rows) n
-added_stands sheet row h n =
+added_stands sheet row once h n =
     ap (λ rows. is_quantity_in rows n) (before_added sheet.rows row h ∙ sym (take_all (length sheet.rows) sheet.rows (omega arith)))
-    ∙ stands_in sheet (length sheet.rows) n
+    ∙ stands_in sheet (length sheet.rows) once n
+
+-- ---- the names of the row
+first_failing : (p q : List ℕ → Bool) → ((n : List ℕ) → p n ≡ q n) → (ns : List (List ℕ)) → find (λ n. not (p n)) ns ≡ find (λ n. not (q n)) ns
+first_failing p q h ns = find_agree (λ n. not (p n)) (λ n. not (q n)) (λ n. ap not (h n)) ns
 
 -- the names that a row uses, each once, tell the same
-uses_by : (known known' earlier earlier' : List ℕ → Bool) → ((n : List ℕ) → known n ≡ known' n) → ((n : List ℕ) → earlier n ≡ earlier' n)
-    → (row : Row) (v : Verdict)
-    → unless (find (λ n. not (known n)) (used_names row)) Unknown (unless (find (λ n. not (earlier n)) (used_names row)) NotEarlier v)
-    ≡ unless (find (λ n. not (known' n)) (names_used row)) Unknown (unless (find (λ n. not (earlier' n)) (names_used row)) NotEarlier v)
-uses_by known known' earlier earlier' f g row v =
-    let a = find_agree (λ n. not (known n)) (λ n. not (known' n)) (λ n. ap not (f n)) (used_names row) ∙ sym (find_distinct (λ n. not (known' n)) (used_names row)) in
-    let b = find_agree (λ n. not (earlier n)) (λ n. not (earlier' n)) (λ n. ap not (g n)) (used_names row) ∙ sym (find_distinct (λ n. not (earlier' n)) (used_names row)) in
-    λ j. unless (a j) Unknown (unless (b j) NotEarlier v)
+names_by : (edited sheet : Sheet) (row : Row) (at : ℕ) (v : Verdict) → ((n : List ℕ) → has_quantity edited n ≡ is_known_with sheet row n)
+    → ((n : List ℕ) → is_quantity_in (rows_before (name_of row) edited.rows) n ≡ stands_before sheet at n)
+    → ((n : List ℕ) → is_correlatable_in edited.rows n ≡ is_correlatable_with sheet row n)
+    → ((n : List ℕ) → is_correlated_apart edited.rows row n ≡ is_correlated_apart sheet.rows row n)
+    → unless_uses_fail edited row v ≡ unless_names_fail sheet row at v
+names_by edited sheet row at v known earlier correlatable apart =
+    let a = first_failing (has_quantity edited) (is_known_with sheet row) known (used_names row) ∙ sym (find_distinct (λ n. not (is_known_with sheet row n)) (used_names row)) in
+    let b = first_failing (is_quantity_in (rows_before (name_of row) edited.rows)) (stands_before sheet at) earlier (used_names row) ∙ sym (find_distinct (λ n. not (stands_before sheet at n)) (used_names row)) in
+    let c = first_failing (is_correlatable_in edited.rows) (is_correlatable_with sheet row) correlatable (correlated_names row) in
+    let d = find_agree (is_correlated_apart edited.rows row) (is_correlated_apart sheet.rows row) apart (correlated_names row) in
+    λ j. unless (a j) Unknown (unless (b j) NotEarlier (unless (option_or (c j) (repeated_name row)) NotCorrelatable (unless (d j) AlreadyCorrelated v)))
 
--- where there is room and the name is new, the names used decide
-pub add_by_uses : (sheet : Sheet) (row : Row) → nat_le row_limit (length sheet.rows) ≡ false → has_row sheet (name_of row) ≡ false
-    → verdict_add sheet row
-    ≡ unless (find (λ n. not (is_known_with sheet (name_of row) n)) (names_used row)) Unknown
-    (unless (find (λ n. not (stands_before sheet (length sheet.rows) n)) (names_used row)) NotEarlier (Ok (added sheet row)))
-add_by_uses sheet row full new =
+-- no name of the row is refused, and the verdict goes on
+pub record Uses (edited : Sheet) (row : Row) (v w : Verdict) : Type 0 where
+  pub known : are_known edited.rows row ≡ true
+  pub earlier : are_known (rows_before (name_of row) edited.rows) row ≡ true
+  pub correlatable : are_correlatable edited.rows row ≡ true
+  pub apart : are_apart edited.rows row ≡ true
+  pub rest : v ≡ w
+
+pub uses_ok : (edited : Sheet) (row : Row) (v : Verdict) (e : Sheet) → unless_uses_fail edited row v ≡ Ok e → Uses edited row v (Ok e)
+uses_ok edited row v e h =
+    let d = unless (first_correlated edited row) AlreadyCorrelated v in
+    let c = unless (first_not_correlatable edited row) NotCorrelatable d in
+    let b = unless (first_not_earlier edited row) NotEarlier c in
+    let known = unless_ok (first_unknown edited row) Unknown b e h in
+    let earlier = unless_ok (first_not_earlier edited row) NotEarlier c e known.1 in
+    let correlatable = unless_ok (first_not_correlatable edited row) NotCorrelatable d e earlier.1 in
+    let apart = unless_ok (first_correlated edited row) AlreadyCorrelated v e correlatable.1 in
+    record {
+      known = none_all (is_quantity_in edited.rows) (used_names row) known.0;
+      earlier = none_all (is_quantity_in (rows_before (name_of row) edited.rows)) (used_names row) earlier.0;
+      correlatable = correlatable_allowed edited row correlatable.0;
+      apart = apart_allowed edited row apart.0;
+      rest = apart.1;
+    }
+
+pub ok_uses : (edited : Sheet) (row : Row) (v : Verdict) → are_known edited.rows row ≡ true → are_known (rows_before (name_of row) edited.rows) row ≡ true
+    → are_correlatable edited.rows row ≡ true → are_apart edited.rows row ≡ true → unless_uses_fail edited row v ≡ v
+ok_uses edited row v known earlier correlatable apart =
+    let a = all_none (is_quantity_in edited.rows) (used_names row) known in
+    let b = all_none (is_quantity_in (rows_before (name_of row) edited.rows)) (used_names row) earlier in
+    let c = allowed_correlatable edited row correlatable in
+    let d = allowed_apart edited row apart in
+    λ j. unless (a j) Unknown (unless (b j) NotEarlier (unless (c j) NotCorrelatable (unless (d j) AlreadyCorrelated v)))
+
+-- where there is room and the name is new, the names of the row decide
+pub add_by_names : (sheet : Sheet) (row : Row) (at : ℕ) → are_named_once sheet.rows ≡ true → length sheet.rows ≡ at
+    → nat_le row_limit (length sheet.rows) ≡ false → has_row sheet (name_of row) ≡ false
+    → verdict_add sheet row ≡ unless_names_fail sheet row at (Ok (added sheet row))
+add_by_names sheet row at once e full new =
     (λ j. cond (full j) (Err RowsFull) (cond (new j) (Err (Duplicate (name_of row))) (unless_uses_fail (added sheet row) row (Ok (added sheet row)))))
-    ∙ uses_by _ _ _ _ (added_known sheet row) (added_stands sheet row new) row (Ok (added sheet row))
+    ∙ names_by (added sheet row) sheet row (length sheet.rows) (Ok (added sheet row)) (added_known sheet row new) (added_stands sheet row once new)
+    (λ n. has_added is_correlatable n sheet.rows row new) (apart_added sheet.rows row)
+    ∙ ap (λ k. unless_names_fail sheet row k (Ok (added sheet row))) e
 
 -- ---- the row set
 set_has_by : (row other : Row) (n : List ℕ) (rows rows' : List Row) (t : Bool) → is_named (name_of row) other ≡ t → is_among rows' n ≡ is_among rows n
@@ -95,19 +160,15 @@ pub set_has : (sheet : List Row) (row : Row) (n : List ℕ) → is_among (rows_w
 set_has [] row n = refl
 set_has (r ∷ rs) row n = set_has_by row r n rs (rows_with row rs) (is_named (name_of row) r) refl (set_has rs row n)
 
-pub set_quantity : (sheet : List Row) (row : Row) (n : List ℕ) → is_quantity_in (rows_with row sheet) n ≡ is_quantity_in sheet n
-set_quantity sheet row n = quantity_is_row (rows_with row sheet) n ∙ set_has sheet row n ∙ sym (quantity_is_row sheet n)
+pub set_known : (sheet : Sheet) (row : Row) → are_named_once sheet.rows ≡ true → has_row sheet (name_of row) ≡ true
+    → (n : List ℕ) → has_quantity (set_row row sheet) n ≡ is_known_with sheet row n
+set_known sheet row once there n =
+    quantity_named (rows_with row sheet.rows) n ∙ has_set (λ r. gives r n) n sheet.rows row once there
+    ∙ ap (cond (is_named n row) (gives row n)) (sym (quantity_named sheet.rows n))
 
-own_known : (sheet : List Row) (own n : List ℕ) (t : Bool) → bytes_eq n own ≡ t → is_among sheet own ≡ true → (is_among sheet n || t) ≡ is_among sheet n
-own_known sheet own n false e h = or-false (is_among sheet n)
-own_known sheet own n true e h =
-    let there : is_among sheet n ≡ true = ap (is_among sheet) (same_name n own e) ∙ h in
-    ap (λ b. b || true) there ∙ sym there
-
-set_known : (sheet : Sheet) (row : Row) → has_row sheet (name_of row) ≡ true → (n : List ℕ) → has_quantity (set_row row sheet) n ≡ is_known_with sheet (name_of row) n
-set_known sheet row h n =
-    quantity_is_row (rows_with row sheet.rows) n ∙ set_has sheet.rows row n
-    ∙ sym (known_is sheet (name_of row) n ∙ own_known sheet.rows (name_of row) n (bytes_eq n (name_of row)) refl h)
+pub set_correlatable : (sheet : Sheet) (row : Row) → are_named_once sheet.rows ≡ true → has_row sheet (name_of row) ≡ true
+    → (n : List ℕ) → is_correlatable_in (rows_with row sheet.rows) n ≡ is_correlatable_with sheet row n
+set_correlatable sheet row once there n = has_set is_correlatable n sheet.rows row once there
 
 pub before_set : (sheet : List Row) (row : Row) (at : ℕ) → IsFirstAt (is_named (name_of row)) sheet at → rows_before (name_of row) (rows_with row sheet) ≡ take at sheet
 before_set [] row at h = absurd h
@@ -117,74 +178,70 @@ before_set (r ∷ rs) row (suc at) h =
     ap (λ b. rows_before (name_of row) (cond b (row ∷ rs) (r ∷ rows_with row rs))) h.0
     ∙ ap (λ b. cond b [] (r ∷ rows_before (name_of row) (rows_with row rs))) h.0 ∙ ap (λ xs. r ∷ xs) (before_set rs row at h.1)
 
-set_stands : (sheet : Sheet) (row : Row) (at : ℕ) → IsFirstAt (is_named (name_of row)) sheet.rows at → (n : List ℕ)
+set_stands : (sheet : Sheet) (row : Row) (at : ℕ) → are_named_once sheet.rows ≡ true → IsFirstAt (is_named (name_of row)) sheet.rows at → (n : List ℕ)
     → is_quantity_in (rows_before (name_of row) (rows_with row sheet.rows)) n ≡ stands_before sheet at n
-set_stands sheet row at h n = ap (λ rows. is_quantity_in rows n) (before_set sheet.rows row at h) ∙ stands_in sheet at n
-
--- ---- no other row is left without a name that it uses
-pub list_all_agree : (p q : List ℕ → Bool) → ((n : List ℕ) → p n ≡ q n) → (ns : List (List ℕ)) → list_all p ns ≡ list_all q ns
-list_all_agree p q h [] = refl
-list_all_agree p q h (n ∷ ns) = λ j. h n j && list_all_agree p q h ns j
-
-and_none : (a : Bool) → (a && false) ≡ false
-and_none true = refl
-and_none false = refl
-
-module _ (sheet : Sheet) (row : Row) where
-  known_still : (other : Row) → are_known sheet.rows other ≡ true → is_left_without (set_row row sheet) row other ≡ false
-  known_still other h =
-      let same : are_known (rows_with row sheet.rows) other ≡ true =
-      list_all_agree (is_quantity_in (rows_with row sheet.rows)) (is_quantity_in sheet.rows) (set_quantity sheet.rows row) (used_names other) ∙ h in
-      ap (λ b. not (is_named (name_of row) other) && not b) same ∙ and_none (not (is_named (name_of row) other))
-
-  none_left_in : (rest : List Row) → list_all (are_known sheet.rows) rest ≡ true → find (is_left_without (set_row row sheet) row) rest ≡ None
-  none_left_in [] h = refl
-  none_left_in (r ∷ rs) h =
-      ap (λ b. cond b (Some r) (find (is_left_without (set_row row sheet) row) rs)) (known_still r (and_parts _ _ h).0)
-      ∙ none_left_in rs (and_parts (are_known sheet.rows r) _ h).1
-
-  itself_not_left : is_left_without (set_row row sheet) row row ≡ false
-  itself_not_left = ap (λ b. not b && not (are_known (rows_with row sheet.rows) row)) (named_itself (name_of row))
-
-  none_left_by : (r : Row) (rs rs' : List Row) (t : Bool) → are_known sheet.rows r ≡ true
-      → find (is_left_without (set_row row sheet) row) rs ≡ None → find (is_left_without (set_row row sheet) row) rs' ≡ None
-      → find (is_left_without (set_row row sheet) row) (cond t (row ∷ rs) (r ∷ rs')) ≡ None
-  none_left_by r rs rs' true k h g = ap (λ b. cond b (Some row) (find (is_left_without (set_row row sheet) row) rs)) itself_not_left ∙ h
-  none_left_by r rs rs' false k h g = ap (λ b. cond b (Some r) (find (is_left_without (set_row row sheet) row) rs')) (known_still r k) ∙ g
-
-  pub none_left : (rest : List Row) → list_all (are_known sheet.rows) rest ≡ true → find (is_left_without (set_row row sheet) row) (rows_with row rest) ≡ None
-  none_left [] h = refl
-  none_left (r ∷ rs) h =
-      let k = (and_parts (are_known sheet.rows r) _ h).1 in
-      none_left_by r rs (rows_with row rs) (is_named (name_of row) r) (and_parts _ _ h).0 (none_left_in rs k) (none_left rs k)
+set_stands sheet row at once h n = ap (λ rows. is_quantity_in rows n) (before_set sheet.rows row at h) ∙ stands_in sheet at once n
 
 pub there_at : (p : Row → Bool) (sheet : List Row) (at : ℕ) → position p sheet ≡ Some at → list_any p sheet ≡ true
 there_at p sheet at h = sym (position-any p sheet) ∙ ap is_some h
 
--- where the row is there, the names used decide
-pub set_by_uses : (sheet : Sheet) (row : Row) (at : ℕ) → list_all (are_known sheet.rows) sheet.rows ≡ true → place_of sheet (name_of row) ≡ Some at
-    → verdict_set sheet row
-    ≡ unless (find (λ n. not (is_known_with sheet (name_of row) n)) (names_used row)) Unknown
-    (unless (find (λ n. not (stands_before sheet at n)) (names_used row)) NotEarlier (Ok (set_row row sheet)))
-set_by_uses sheet row at known place =
+-- where the row is there, its names decide, and what the other rows are left with
+pub set_by_names : (sheet : Sheet) (row : Row) (at : ℕ) → are_named_once sheet.rows ≡ true → place_of sheet (name_of row) ≡ Some at
+    → verdict_set sheet row ≡ unless_names_fail sheet row at (unless_left (set_row row sheet) row)
+set_by_names sheet row at once place =
     let there = there_at (is_named (name_of row)) sheet.rows at place in
     ap (λ b. cond b (verdict_on_set (set_row row sheet) row) (Err (Unknown (name_of row)))) there
-    ∙ ap (λ found. unless_uses_fail (set_row row sheet) row (unless (option_map name_of found) InUse (Ok (set_row row sheet)))) (none_left sheet row sheet.rows known)
-    ∙ uses_by _ _ _ _ (set_known sheet row there) (set_stands sheet row at (first_at (is_named (name_of row)) sheet.rows at place)) row (Ok (set_row row sheet))
+    ∙ names_by (set_row row sheet) sheet row at (unless_left (set_row row sheet) row) (set_known sheet row once there)
+    (set_stands sheet row at once (first_at (is_named (name_of row)) sheet.rows at place)) (set_correlatable sheet row once there) (apart_set sheet.rows row)
 
 -- ---- the row removed
-used_by_name : (n : List ℕ) (row : Row) → n ≡ name_of row → (other : Row) → is_user_of row other ≡ list_any (bytes_eq n) (used_names other)
-used_by_name n row e other = or-false (list_any (bytes_eq (name_of row)) (used_names other)) ∙ ap (λ m. list_any (bytes_eq m) (used_names other)) (sym e)
-
 -- the first row that uses the name
 abbrev pub first_user : Sheet → List ℕ → Option (List ℕ)
 first_user sheet n = option_map name_of (find (λ other. list_any (bytes_eq n) (used_names other)) sheet.rows)
 
-removal_by_users : (sheet : Sheet) (n : List ℕ) (row : Row) → n ≡ name_of row
-    → verdict_on_removal sheet n (Some row) ≡ unless (first_user sheet n) InUse (Ok (removed n sheet))
-removal_by_users sheet n row e =
-    ap (λ found. unless (option_map name_of found) InUse (Ok (removed n sheet)))
-    (find_agree (is_user_of row) (λ other. list_any (bytes_eq n) (used_names other)) (used_by_name n row e) sheet.rows)
+-- ---- a row that knows its names in rows without n does not use n
+unused_by : (a : List Row) (n u : List ℕ) (t : Bool) → bytes_eq n u ≡ t → is_quantity_in a n ≡ false → is_quantity_in a u ≡ true → t ≡ false
+unused_by a n u false e h g = refl
+unused_by a n u true e h g = absurd (true≢false (sym g ∙ ap (is_quantity_in a) (sym (same_name n u e)) ∙ h))
+
+pub unused : (a : List Row) (n : List ℕ) (us : List (List ℕ)) → is_quantity_in a n ≡ false → list_all (is_quantity_in a) us ≡ true → list_any (bytes_eq n) us ≡ false
+unused a n [] h g = refl
+unused a n (u ∷ us) h g =
+    let first = unused_by a n u (bytes_eq n u) refl h (and_parts (is_quantity_in a u) (list_all (is_quantity_in a) us) g).0 in
+    let rest = unused a n us h (and_parts (is_quantity_in a u) (list_all (is_quantity_in a) us) g).1 in
+    λ j. first j || rest j
+
+pub all_unused : (a : List Row) (n : List ℕ) (rest : List Row) → is_quantity_in a n ≡ false → list_all (are_known a) rest ≡ true
+    → list_any (λ other. list_any (bytes_eq n) (used_names other)) rest ≡ false
+all_unused a n [] h g = refl
+all_unused a n (r ∷ rs) h g =
+    let first = unused a n (used_names r) h (and_parts (are_known a r) (list_all (are_known a) rs) g).0 in
+    let rest = all_unused a n rs h (and_parts (are_known a r) (list_all (are_known a) rs) g).1 in
+    λ j. first j || rest j
+
+pub missing_find : {X : Type 0} (p : X → Bool) (xs : List X) → list_any p xs ≡ false → find p xs ≡ None
+missing_find p [] h = refl
+missing_find p (x ∷ xs) h = ap (λ b. cond b (Some x) (find p xs)) (or_parts _ _ h).0 ∙ missing_find p xs (or_parts (p x) _ h).1
+
+none_true : (rows : List Row) → list_any (λ other. false) rows ≡ false
+none_true [] = refl
+none_true (r ∷ rs) = none_true rs
+
+users_of_name : (sheet : List Row) (n name : List ℕ) → n ≡ name
+    → find (λ other. list_any (bytes_eq name) (used_names other) || false) sheet ≡ find (λ other. list_any (bytes_eq n) (used_names other)) sheet
+users_of_name sheet n name e =
+    find_agree (λ other. list_any (bytes_eq name) (used_names other) || false) (λ other. list_any (bytes_eq n) (used_names other))
+    (λ other. or-false (list_any (bytes_eq name) (used_names other)) ∙ ap (λ m. list_any (bytes_eq m) (used_names other)) (sym e)) sheet
+
+-- the users of a row use its name, or it is no quantity and has none
+users_by : (sheet : List Row) (n : List ℕ) (row : Row) → n ≡ name_of row → (is_quantity_in sheet n ≡ gives row n) → list_all (are_known sheet) sheet ≡ true
+    → find (is_user_of row) sheet ≡ find (λ other. list_any (bytes_eq n) (used_names other)) sheet
+users_by sheet n (Given name estimate shape dof) e given known = users_of_name sheet n name e
+users_by sheet n (Readings name table) e given known = users_of_name sheet n name e
+users_by sheet n (Correlation name first second coefficient) e given known =
+    missing_find (is_user_of (Correlation name first second coefficient)) sheet (none_true sheet)
+    ∙ sym (missing_find (λ other. list_any (bytes_eq n) (used_names other)) sheet (all_unused sheet n sheet given known))
+users_by sheet n (Formula name formula) e given known = users_of_name sheet n name e
 
 pub found_at : (sheet : List Row) (n : List ℕ) (at : ℕ) → IsFirstAt (is_named n) sheet at → (row : Row) × (find (is_named n) sheet ≡ Some row) × (n ≡ name_of row)
 found_at [] n at h = absurd h
@@ -193,15 +250,24 @@ found_at (r ∷ rs) n (suc at) h =
     let found = found_at rs n at h.1 in
     (found.0, ap (λ b. cond b (Some r) (find (is_named n) rs)) h.0 ∙ found.1, found.2)
 
-pub remove_by_users : (sheet : Sheet) (n : List ℕ) (at : ℕ) → place_of sheet n ≡ Some at
+pub remove_by_users : (sheet : Sheet) (n : List ℕ) (at : ℕ) → are_named_once sheet.rows ≡ true → list_all (are_known sheet.rows) sheet.rows ≡ true → place_of sheet n ≡ Some at
     → verdict_remove sheet n ≡ unless (first_user sheet n) InUse (Ok (removed n sheet))
-remove_by_users sheet n at place =
+remove_by_users sheet n at once known place =
     let found = found_at sheet.rows n at (first_at (is_named n) sheet.rows at place) in
-    ap (verdict_on_removal sheet n) found.1 ∙ removal_by_users sheet n found.0 found.2
+    let given = quantity_found sheet.rows n once ∙ ap (holds (λ r. gives r n) n) found.1 in
+    ap (verdict_on_removal sheet n) found.1
+    ∙ ap (λ user. unless (option_map name_of user) InUse (Ok (removed n sheet))) (users_by sheet.rows n found.0 found.2 given known)
 
-pub missing_find : {X : Type 0} (p : X → Bool) (xs : List X) → list_any p xs ≡ false → find p xs ≡ None
-missing_find p [] h = refl
-missing_find p (x ∷ xs) h = ap (λ b. cond b (Some x) (find p xs)) (or_parts _ _ h).0 ∙ missing_find p xs (or_parts (p x) _ h).1
+pub find_nowhere : (p : Row → Bool) (xs : List Row) → position p xs ≡ None → find p xs ≡ None
+find_nowhere p xs h = missing_find p xs (sym (position-any p xs) ∙ ap is_some h)
+
+find_first : (p : Row → Bool) (xs : List Row) (at : ℕ) → IsFirstAt p xs at → slice_get xs at ≡ find p xs
+find_first p [] at h = absurd h
+find_first p (x ∷ xs) zero h = sym (ap (λ b. cond b (Some x) (find p xs)) h)
+find_first p (x ∷ xs) (suc at) h = find_first p xs at h.1 ∙ sym (ap (λ b. cond b (Some x) (find p xs)) h.0)
+
+pub find_place : (p : Row → Bool) (xs : List Row) (at : ℕ) → position p xs ≡ Some at → slice_get xs at ≡ find p xs
+find_place p xs at h = find_first p xs at (first_at p xs at h)
 
 pub remove_unknown : (sheet : Sheet) (n : List ℕ) → place_of sheet n ≡ None → verdict_remove sheet n ≡ Err (Unknown n)
 remove_unknown sheet n h =
@@ -229,26 +295,15 @@ named_at (x ∷ xs) n zero h = ap Some (sym (same_name n (name_of x) h))
 named_at (x ∷ xs) n (suc at) h = named_at xs n at h.1
 
 pub found_row : (xs : List Row) (n : List ℕ) (at : ℕ) (r : Row) → IsFirstAt (is_named n) xs at → slice_get xs at ≡ Some r → find (is_named n) xs ≡ Some r
-found_row [] n at r h e = absurd h
-found_row (x ∷ xs) n zero r h e = ap (λ b. cond b (Some x) (find (is_named n) xs)) h ∙ e
-found_row (x ∷ xs) n (suc at) r h e = ap (λ b. cond b (Some x) (find (is_named n) xs)) h.0 ∙ found_row xs n at r h.1 e
-
-pub place_within : (sheet : Sheet) (n : List ℕ) (at : ℕ) → place_of sheet n ≡ Some at → at < length sheet.rows
-place_within sheet n at h = within (is_named n) sheet.rows at (first_at (is_named n) sheet.rows at h)
+found_row xs n at r h e = sym (find_first (is_named n) xs at h) ∙ e
 
 -- ---- the answers of the code
-pub below : (a b : ℕ) → b < a → nat_le a b ≡ false
-below a b h = elim (leb_tells a b) [ inl t ↦ absurd (omega (arith, t.1, h)) | inr f ↦ f.0 ]
-
-pub up_to : (a b : ℕ) → nat_le a b ≡ false → b < a
-up_to a b h = elim (leb_tells a b) [ inl t ↦ absurd (true≢false (sym t.0 ∙ h)) | inr f ↦ f.1 ]
-
-pub refused_second : (sheet : Sheet) (own own' : List ℕ) (names names1 names2 : List (List ℕ)) (at : ℕ) (u w : Option (List ℕ)) (n : List ℕ) (v : Verdict)
-    → own' ≡ own → names1 ≡ names → names2 ≡ names
-    → u ≡ find (λ n. not (is_known_with sheet own' n)) names1 → u ≡ None → w ≡ find (λ n. not (stands_before sheet at n)) names2 → w ≡ Some n
-    → unless (find (λ n. not (is_known_with sheet own n)) names) Unknown (unless (find (λ n. not (stands_before sheet at n)) names) NotEarlier v) ≡ Err (NotEarlier n)
-refused_second sheet own own' names names1 names2 at u w n v a b c e f g h =
-    let first : find (λ n. not (is_known_with sheet own n)) names ≡ None = sym (λ j. find (λ n. not (is_known_with sheet (a j) n)) (b j)) ∙ sym e ∙ f in
+pub refused_second : (sheet : Sheet) (row : Row) (names names1 names2 : List (List ℕ)) (at : ℕ) (u w : Option (List ℕ)) (n : List ℕ) (v : Verdict)
+    → names1 ≡ names → names2 ≡ names
+    → u ≡ find (λ n. not (is_known_with sheet row n)) names1 → u ≡ None → w ≡ find (λ n. not (stands_before sheet at n)) names2 → w ≡ Some n
+    → unless (find (λ n. not (is_known_with sheet row n)) names) Unknown (unless (find (λ n. not (stands_before sheet at n)) names) NotEarlier v) ≡ Err (NotEarlier n)
+refused_second sheet row names names1 names2 at u w n v b c e f g h =
+    let first : find (λ n. not (is_known_with sheet row n)) names ≡ None = sym (ap (find (λ n. not (is_known_with sheet row n))) b) ∙ sym e ∙ f in
     let second : find (λ n. not (stands_before sheet at n)) names ≡ Some n = sym (ap (find (λ n. not (stands_before sheet at n))) c) ∙ sym g ∙ h in
     λ j. unless (first j) Unknown (unless (second j) NotEarlier v)
 
@@ -262,18 +317,20 @@ pub new_name : (sheet : Sheet) (n : List ℕ) → is_some (place_of sheet n) ≡
 new_name sheet n h = sym (position-any (is_named n) sheet.rows) ∙ h
 
 pub not_full : (sheet : Sheet) (len : ℕ) → len ≡ length sheet.rows → len < 4096 → nat_le row_limit (length sheet.rows) ≡ false
-not_full sheet len e h = below row_limit (length sheet.rows) (omega (arith, e, h))
+not_full sheet len e h = lt-leb row_limit (length sheet.rows) (omega (arith, e, h))
 
-pub add_by_uses_at : (sheet : Sheet) (row : Row) (at : ℕ) → length sheet.rows ≡ at → nat_le row_limit (length sheet.rows) ≡ false → has_row sheet (name_of row) ≡ false
-    → verdict_add sheet row
-    ≡ unless (find (λ n. not (is_known_with sheet (name_of row) n)) (names_used row)) Unknown
-    (unless (find (λ n. not (stands_before sheet at n)) (names_used row)) NotEarlier (Ok (added sheet row)))
-add_by_uses_at sheet row at e full new =
-    add_by_uses sheet row full new
-    ∙ ap (λ k. unless (find (λ n. not (is_known_with sheet (name_of row) n)) (names_used row)) Unknown
-    (unless (find (λ n. not (stands_before sheet k n)) (names_used row)) NotEarlier (Ok (added sheet row)))) e
+pub names_no_duplicate : (a b c d : Option (List ℕ)) (sheet : Sheet) (n : List ℕ)
+    → unless a Unknown (unless b NotEarlier (unless c NotCorrelatable (unless d AlreadyCorrelated (Ok sheet)))) ≡ Err (Duplicate n) → ⊥
+names_no_duplicate None None None None sheet n h = cc
+names_no_duplicate None None None (Some m) sheet n h = cc
+names_no_duplicate None None (Some m) d sheet n h = cc
+names_no_duplicate None (Some m) c d sheet n h = cc
+names_no_duplicate (Some m) b c d sheet n h = cc
 
-pub uses_no_duplicate : (a b : Option (List ℕ)) (sheet : Sheet) (n : List ℕ) → unless a Unknown (unless b NotEarlier (Ok sheet)) ≡ Err (Duplicate n) → ⊥
-uses_no_duplicate None None sheet n h = cc
-uses_no_duplicate None (Some m) sheet n h = cc
-uses_no_duplicate (Some m) b sheet n h = cc
+pub names_not_full : (a b c d : Option (List ℕ)) (sheet : Sheet)
+    → unless a Unknown (unless b NotEarlier (unless c NotCorrelatable (unless d AlreadyCorrelated (Ok sheet)))) ≡ Err RowsFull → ⊥
+names_not_full None None None None sheet h = cc
+names_not_full None None None (Some m) sheet h = cc
+names_not_full None None (Some m) d sheet h = cc
+names_not_full None (Some m) c d sheet h = cc
+names_not_full (Some m) b c d sheet h = cc

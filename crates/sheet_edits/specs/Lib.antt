@@ -3,3 +3,4 @@ pub mod Sheets
 pub mod Standing
 pub mod Places
 pub mod States
+pub mod WorkedSheets

@@ -1,11 +1,11 @@
 -- When a sheet is well formed, and the verdict on an edit of it: the edited sheet, or the first refusal that
 -- applies.
-use Rattle.std.specs.Prelude.{◌≡◌, ◌≤◌, ◌&&◌, ℕ, Bool, true, not, nat_le, if◌then◌else◌, List, [], ◌∷◌, ◌++◌, length, find, Option, None, Some, Result, Ok, Err, bytes_eq}
+use Rattle.std.specs.Prelude.{◌≡◌, ◌≤◌, ◌&&◌, ℕ, Bool, true, not, nat_le, if◌then◌else◌, List, [], ◌∷◌, ◌++◌, length, find, Option, None, Some, is_some, Result, Ok, Err, bytes_eq}
 use Rattle.std.specs.List.{list_any, list_all}
-use Rattle.std.specs.Option.{option_map}
-use Rattle.sheet_rows.specs.Rows.{Row, Sheet, name_of, used_names, quantities_of}
+use Rattle.std.specs.Option.{option_map, option_or}
+use Rattle.sheet_rows.specs.Rows.{Row, Sheet, Given, Readings, Correlation, Formula, name_of, used_names, quantities_of, correlated_names, correlates, is_correlatable}
 use Rattle.sheet_rows.specs.declared.edit_fault.EditFault.{EditFault}
-use Rattle.sheet_rows.specs.declared.edit_fault.EditFault.TheVariants.{RowsFull, Duplicate, Unknown, NotEarlier, InUse}
+use Rattle.sheet_rows.specs.declared.edit_fault.EditFault.TheVariants.{RowsFull, Duplicate, Unknown, NotEarlier, NotCorrelatable, AlreadyCorrelated, InUse}
 
 -- ---- names
 abbrev pub is_named : List ℕ → Row → Bool
@@ -19,7 +19,7 @@ abbrev pub has_row : Sheet → List ℕ → Bool
 has_row sheet n = is_among sheet.rows n
 
 -- ---- quantities
--- those of the rows, in the order of the rows; nothing rests on a row having exactly one
+-- those of the rows, in the order of the rows
 abbrev pub quantities_in : List Row → List (List ℕ)
 quantities_in [] = []
 quantities_in (row ∷ rows) = quantities_of row ++ quantities_in rows
@@ -30,6 +30,30 @@ is_quantity_in rows n = list_any (bytes_eq n) (quantities_in rows)
 
 abbrev pub has_quantity : Sheet → List ℕ → Bool
 has_quantity sheet n = is_quantity_in sheet.rows n
+
+-- ---- correlations
+-- the name is that of an input of the rows that may be correlated
+abbrev pub is_correlatable_in : List Row → List ℕ → Bool
+is_correlatable_in rows n = list_any (λ row. is_named n row && is_correlatable row) rows
+
+-- the name that a correlation has twice
+abbrev pub repeated_name : Row → Option (List ℕ)
+repeated_name (Given name estimate shape dof) = None
+repeated_name (Readings name table) = None
+repeated_name (Correlation name first second coefficient) = if bytes_eq first second then Some second else None
+repeated_name (Formula name formula) = None
+
+-- the inputs that the row correlates may be correlated, and are two
+abbrev pub are_correlatable : List Row → Row → Bool
+are_correlatable rows row = list_all (is_correlatable_in rows) (correlated_names row) && not (is_some (repeated_name row))
+
+-- another of the rows is a correlation with this name
+abbrev pub is_correlated_apart : List Row → Row → List ℕ → Bool
+is_correlated_apart rows row n = list_any (λ other. not (is_named (name_of row) other) && correlates other n) rows
+
+-- no name that the row correlates is in another correlation
+abbrev pub are_apart : List Row → Row → Bool
+are_apart rows row = list_all (λ n. not (is_correlated_apart rows row n)) (correlated_names row)
 
 -- ---- well-formed sheets
 abbrev pub row_limit : ℕ
@@ -54,6 +78,8 @@ pub record IsWellFormed (sheet : Sheet) : Type 0 where
   pub once : are_named_once sheet.rows ≡ true
   pub known : list_all (are_known sheet.rows) sheet.rows ≡ true
   pub earlier : are_earlier [] sheet.rows ≡ true
+  pub correlatable : list_all (are_correlatable sheet.rows) sheet.rows ≡ true
+  pub apart : list_all (are_apart sheet.rows) sheet.rows ≡ true
 
 -- the edited sheet is this one, and well formed
 pub record IsAccepted (edited sheet : Sheet) : Type 0 where
@@ -103,9 +129,21 @@ first_unknown edited row = find (λ n. not (has_quantity edited n)) (used_names 
 abbrev pub first_not_earlier : Sheet → Row → Option (List ℕ)
 first_not_earlier edited row = find (λ n. not (is_quantity_in (rows_before (name_of row) edited.rows) n)) (used_names row)
 
+-- the first name that the row correlates whose row may not be correlated; else the one that it has twice
+abbrev pub first_not_correlatable : Sheet → Row → Option (List ℕ)
+first_not_correlatable edited row =
+    option_or (find (λ n. not (is_correlatable_in edited.rows n)) (correlated_names row)) (repeated_name row)
+
+-- the first name that the row correlates that another correlation has
+abbrev pub first_correlated : Sheet → Row → Option (List ℕ)
+first_correlated edited row = find (is_correlated_apart edited.rows row) (correlated_names row)
+
 abbrev pub unless_uses_fail : Sheet → Row → Verdict → Verdict
 unless_uses_fail edited row verdict =
-    unless (first_unknown edited row) Unknown (unless (first_not_earlier edited row) NotEarlier verdict)
+    unless (first_unknown edited row) Unknown
+    (unless (first_not_earlier edited row) NotEarlier
+    (unless (first_not_correlatable edited row) NotCorrelatable
+    (unless (first_correlated edited row) AlreadyCorrelated verdict)))
 
 -- on adding a row
 abbrev pub verdict_add : Sheet → Row → Verdict
@@ -114,13 +152,16 @@ verdict_add sheet row =
     else (if has_row sheet (name_of row) then Err (Duplicate (name_of row))
     else unless_uses_fail (added sheet row) row (Ok (added sheet row)))
 
--- another row than `row` uses a name that is no quantity of the edited sheet
+-- another row than `row` uses a name that is no quantity of the edited sheet, or correlates what may not be correlated
 abbrev pub is_left_without : Sheet → Row → Row → Bool
-is_left_without edited row other = not (is_named (name_of row) other) && not (are_known edited.rows other)
+is_left_without edited row other =
+    not (is_named (name_of row) other) && not (are_known edited.rows other && are_correlatable edited.rows other)
+
+abbrev pub unless_left : Sheet → Row → Verdict
+unless_left edited row = unless (option_map name_of (find (is_left_without edited row) edited.rows)) InUse (Ok edited)
 
 abbrev pub verdict_on_set : Sheet → Row → Verdict
-verdict_on_set edited row =
-    unless_uses_fail edited row (unless (option_map name_of (find (is_left_without edited row) edited.rows)) InUse (Ok edited))
+verdict_on_set edited row = unless_uses_fail edited row (unless_left edited row)
 
 -- on setting a row
 abbrev pub verdict_set : Sheet → Row → Verdict

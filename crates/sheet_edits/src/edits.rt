@@ -1,14 +1,14 @@
-ghost use Rattle.std.specs.Prelude.{◌≡◌, ℕ, List, false, find, not, Some, None, Ok, Err, OnErr, OnOk, IfOk, IfErr, slice_get};
-ghost use Rattle.sheet_rows.specs.Rows.{Sheet as Rows, row_of, name_of, names_used};
+ghost use Rattle.std.specs.Prelude.{◌≡◌, ℕ, List, true, false, find, not, Some, None, Ok, Err, OnErr, OnOk, IfOk, IfErr, slice_get};
+ghost use Rattle.sheet_rows.specs.Rows.{row_of, name_of, names_used};
 ghost use Rattle.sheet_rows.specs.Regular.{IsRegular};
 ghost use Rattle.sheet_edits.specs.Standing.{IsStanding};
-ghost use Rattle.sheet_edits.specs.Sheets.{is_named, has_row, added, set_row, removed, unless, verdict_add, verdict_set, verdict_remove};
-ghost use Rattle.sheet_edits.specs.Places.{place_of, is_known_with, stands_before, verdict_of, IsVerdict};
+ghost use Rattle.sheet_edits.specs.Sheets.{Verdict, is_named, has_row, added, set_row, removed, unless, unless_left, verdict_add, verdict_set, verdict_remove};
+ghost use Rattle.sheet_edits.specs.Places.{place_of, is_known_with, stands_before, loses_nothing, unless_names_fail, verdict_of, IsVerdict, IsChecked};
 ghost use Rattle.sheet_rows.specs.declared.edit_fault.EditFault.{EditFault};
 ghost use Rattle.sheet_rows.specs.declared.edit_fault.EditFault.TheVariants.{Unknown, NotEarlier};
 
 use crate::sheet::Sheet;
-use crate::users::first_user;
+use crate::users::{first_left_by, first_user};
 use formula_ast::Name;
 use sheet_rows::{EditFault, Row};
 use std::rc::Rc;
@@ -17,28 +17,31 @@ use std::rc::Rc;
 const ROW_LIMIT: usize = 4096;
 
 impl Sheet {
-    // Whether the name is that of a row, or `own`.
-    fn is_known_with(&self, own: &Name, name: &Name) -> bool
-        ensures { result ≡ is_known_with self.now own.now name.now }
+    // Whether the name is that of a quantity, where the row is put in.
+    fn is_known_with(&self, row: &Row, name: &Name) -> bool
+        ensures { result ≡ is_known_with self.now (row_of row.now) name.now }
     {
-        self.place_of(name).is_some() || name == own
+        if name == row.name() {
+            return row.gives(name);
+        }
+        self.has_quantity(name)
     }
 
-    // Whether the name is that of a row before the place.
+    // Whether the name is that of a quantity whose row stands before the place.
     fn stands_before(&self, at: usize, name: &Name) -> bool
         ensures { result ≡ stands_before self.now at name.now }
     {
         match self.place_of(name) {
-            Some(place) => place < at,
+            Some(place) => place < at && self.has_quantity(name),
             None => false,
         }
     }
 
-    fn first_unknown(&self, own: &Name, names: &[Name]) -> Option<Name>
-        ensures { result ≡ find (λ n. not (is_known_with self.now own.now n)) names.now }
+    fn first_unknown(&self, row: &Row, names: &[Name]) -> Option<Name>
+        ensures { result ≡ find (λ n. not (is_known_with self.now (row_of row.now) n)) names.now }
     {
         for name in names {
-            if !self.is_known_with(own, name) {
+            if !self.is_known_with(row, name) {
                 return Some(*name);
             }
         }
@@ -56,20 +59,28 @@ impl Sheet {
         None
     }
 
-    // Whether each name that the row uses is that of a row, and of one before the place.
+    // Whether each name that the row uses is that of a quantity, and of one whose row stands before the place.
     fn check_uses(&self, row: &Row, at: usize) -> Result<(), EditFault>
-        ensures { (edited : Rows) → IsVerdict result edited
-            (unless (find (λ n. not (is_known_with self.now (name_of (row_of row.now)) n)) (names_used (row_of row.now))) Unknown
-            (unless (find (λ n. not (stands_before self.now at n)) (names_used (row_of row.now))) NotEarlier (Ok edited))) }
+        ensures { (rest : Verdict) → IsChecked result rest
+            (unless (find (λ n. not (is_known_with self.now (row_of row.now) n)) (names_used (row_of row.now))) Unknown
+            (unless (find (λ n. not (stands_before self.now at n)) (names_used (row_of row.now))) NotEarlier rest)) }
     {
         let names = row.used_names(self.allocator())?;
-        if let Some(name) = self.first_unknown(row.name(), names.as_slice()) {
+        if let Some(name) = self.first_unknown(row, names.as_slice()) {
             return Err(EditFault::Unknown(name));
         }
         if let Some(name) = self.first_not_earlier(at, names.as_slice()) {
             return Err(EditFault::NotEarlier(name));
         }
         Ok(())
+    }
+
+    // The refusals by the names of the row, which is put at the place.
+    fn check_names(&self, row: &Row, at: usize) -> Result<(), EditFault>
+        ensures { (rest : Verdict) → IsChecked result rest (unless_names_fail self.now (row_of row.now) at rest) }
+    {
+        self.check_uses(row, at)?;
+        self.check_correlated(row)
     }
 
     // The verdict on adding the row.
@@ -87,7 +98,7 @@ impl Sheet {
         if self.place_of(row.name()).is_some() {
             return Err(EditFault::Duplicate(*row.name()));
         }
-        self.check_uses(row, self.len())
+        self.check_names(row, self.len())
     }
 
     // The verdict on setting the row, whose place is `at`.
@@ -97,9 +108,35 @@ impl Sheet {
         ensures verdict { IsVerdict result (set_row (row_of row.now) self.now) (verdict_set self.now (row_of row.now)) }
         ensures standing { OnOk result (IsStanding (set_row (row_of row.now) self.now)) }
     {
-        // Its contract says that the sheet is well formed: no other row is left without a name that it uses.
+        // The contract of `rows` says that the sheet is well formed.
         let _rows = self.rows();
-        self.check_uses(row, at)
+        self.check_names(row, at)?;
+        self.check_left(row)
+    }
+
+    // Whether the name of the row is a quantity, and that of an input that may be correlated, where it was one.
+    fn loses_nothing(&self, row: &Row) -> bool
+        ensures { result ≡ loses_nothing self.now (row_of row.now) }
+    {
+        let name = row.name();
+        (row.gives(name) || !self.has_quantity(name))
+            && (row.is_correlatable() || !self.has_correlatable(name))
+    }
+
+    // Whether no other row is left without what it uses or correlates, where the row is put in the place of that of
+    // its name. The rows are looked through only where something is lost.
+    fn check_left(&self, row: &Row) -> Result<(), EditFault>
+        requires { has_row self.now (name_of (row_of row.now)) ≡ true }
+        ensures { IsVerdict result (set_row (row_of row.now) self.now) (unless_left (set_row (row_of row.now) self.now) (row_of row.now)) }
+    {
+        let rows = self.rows();
+        if self.loses_nothing(row) {
+            return Ok(());
+        }
+        match first_left_by(rows, row) {
+            Some(user) => Err(EditFault::InUse(user)),
+            None => Ok(()),
+        }
     }
 
     // The verdict on removing the row of this name, whose place is `at`.
@@ -114,12 +151,13 @@ impl Sheet {
         }
     }
 
-    /// Adds a row, which is put last. It takes the time of finding the row's own names.
+    /// Adds a row, which is put last. It takes the time of finding the row's own names; for a correlation it looks
+    /// at each row.
     ///
     /// # Errors
     ///
-    /// The first refusal that applies, from [`EditFault::RowsFull`] to [`EditFault::NotEarlier`], or
-    /// [`EditFault::OutOfMemory`], which hides neither of the first two. The sheet is then as before, and the
+    /// The first refusal that applies, from [`EditFault::RowsFull`] to [`EditFault::AlreadyCorrelated`],
+    /// or [`EditFault::OutOfMemory`], which hides neither of the first two. The sheet is then as before, and the
     /// row is dropped.
     pub fn try_add(&mut self, row: Row) -> Result<(), EditFault>
         requires { IsRegular (row_of row) }
@@ -154,11 +192,13 @@ impl Sheet {
         }
     }
 
-    /// Puts a row in the place of that of its name, and hands the old row out.
+    /// Puts a row in the place of that of its name, and hands the old row out. It takes the time of finding the row's
+    /// own names; it looks at each row where other rows may use or correlate what the old row was and the new one is
+    /// not, and for a correlation.
     ///
     /// # Errors
     ///
-    /// The first refusal that applies, [`EditFault::Unknown`] or [`EditFault::NotEarlier`], or
+    /// The first refusal that applies, from [`EditFault::Unknown`] to [`EditFault::InUse`], or
     /// [`EditFault::OutOfMemory`], which does not hide that no row has the row's name. The sheet is then as
     /// before, and the row is dropped.
     pub fn try_set(&mut self, row: Row) -> Result<Rc<Row>, EditFault>

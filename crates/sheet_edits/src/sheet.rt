@@ -2,7 +2,7 @@ ghost use Rattle.std.specs.Prelude.{◌≡◌, ◌<◌, map, length, find, None,
 ghost use Rattle.std.specs.Option.{option_map};
 ghost use Rattle.sheet_rows.specs.Rows.{empty_sheet, row_of};
 ghost use Rattle.sheet_edits.specs.Standing.{IsStanding};
-ghost use Rattle.sheet_edits.specs.Sheets.{is_named, has_quantity, added, set_row};
+ghost use Rattle.sheet_edits.specs.Sheets.{is_named, has_quantity, is_correlatable_in, added, set_row};
 ghost use Rattle.sheet_edits.specs.Places.{place_of, code_name};
 
 use formula_ast::Name;
@@ -69,8 +69,33 @@ impl Sheet {
     pub fn has_quantity(&self, name: &Name) -> bool
         ensures { result ≡ has_quantity self.now name.now }
     {
-        // Here each row has one quantity, of its own name.
-        self.place_of(name).is_some()
+        match self.row_named(name) {
+            Some(row) => row.gives(name),
+            None => false,
+        }
+    }
+
+    // Whether the name is that of an input that may be correlated.
+    pub(crate) fn has_correlatable(&self, name: &Name) -> bool
+        ensures { result ≡ is_correlatable_in self.now.rows name.now }
+    {
+        match self.row_named(name) {
+            Some(row) => row.is_correlatable(),
+            None => false,
+        }
+    }
+
+    // The row of this name, and that the sheet is well formed: it is the only one.
+    fn row_named(&self, name: &Name) -> Option<&Rc<Row>>
+        ensures row { option_map (λ row. row_of row.now.value) result ≡ find (is_named name.now) self.now.rows }
+        ensures standing { IsStanding self.now }
+    {
+        // The contract of `rows` says that the sheet is well formed.
+        let _rows = self.rows();
+        match self.place_of(name) {
+            Some(at) => self.row_at(at),
+            None => None,
+        }
     }
 
     /// The row at this place, counted from 0.

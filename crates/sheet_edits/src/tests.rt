@@ -1,8 +1,9 @@
 ghost use Rattle.std.specs.Prelude.{◌≡◌, true, Ok, IfOk};
-ghost use Rattle.formula_ast.specs.Names.{is_plain_name};
+ghost use Rattle.formula_ast.specs.Names.{is_name, is_plain_name};
 ghost use Rattle.formula_ast.specs.Printing.{print};
 ghost use Rattle.formula_ast.specs.Reading.{reading_of};
 ghost use Rattle.formula_ast.specs.Views.{tree_of};
+ghost use Rattle.type_b.specs.Shapes.{HasDecimals};
 ghost use Rattle.sheet_rows.specs.Rows.{row_of};
 ghost use Rattle.sheet_rows.specs.Regular.{IsRegular};
 
@@ -14,15 +15,12 @@ use std::alloc::Global;
 use std::process::Abort;
 use std::rc::Rc;
 use std::test::Fail;
-use type_b::{Dof, Shape};
+use type_b::{Dof, Shape, are_degrees, check};
 
-fn name_of(text: &str) -> Result<Name, &'static str> {
+fn name_of(text: &str) -> Result<Name, &'static str>
+    ensures { IfOk result (λ name. is_name name ≡ true) }
+{
     Name::new(text.as_bytes()).ok_or("not a name")
-}
-
-// The number 1.
-fn one() -> Result<Dec, &'static str> {
-    Dec::new(1, 0).ok_or("not a number")
 }
 
 fn plain(text: &str) -> Result<Name, &'static str>
@@ -31,15 +29,36 @@ fn plain(text: &str) -> Result<Name, &'static str>
     Name::plain(text.as_bytes()).ok_or("not a name")
 }
 
+fn given(name: &str, shape: Shape, dof: Dof) -> Result<Row, &'static str>
+    requires { HasDecimals shape }
+    ensures { IfOk result (λ row. IsRegular (row_of row)) }
+{
+    if check(&shape).is_err() || !are_degrees(&dof) {
+        return Err("not an uncertainty");
+    }
+    Ok(Row::Given {
+        name: plain(name)?,
+        estimate: Dec::whole(1),
+        shape,
+        dof,
+    })
+}
+
 // An exact input.
 fn input(name: &str) -> Result<Row, &'static str>
     ensures { IfOk result (λ row. IsRegular (row_of row)) }
 {
-    Ok(Row::Given {
+    given(name, Shape::Exact, Dof::Inf)
+}
+
+fn correlation(name: &str, first: &str, second: &str) -> Result<Row, &'static str>
+    ensures { IfOk result (λ row. IsRegular (row_of row)) }
+{
+    Ok(Row::Correlation {
         name: plain(name)?,
-        estimate: one()?,
-        shape: Shape::Exact,
-        dof: Dof::Inf,
+        first: name_of(first)?,
+        second: name_of(second)?,
+        coefficient: Dec::whole(1),
     })
 }
 
@@ -63,14 +82,34 @@ fn function(alloc: Global, name: &str, text: &str) -> Result<Row, &'static str>
     }
 }
 
-// The quantity of this name by this formula, and an exact input where there is none.
-fn row_of(alloc: Global, name: &str, text: &str) -> Result<Row, &'static str>
+// What the row of an edit is.
+#[derive(Clone, Copy)]
+enum What {
+    Exact,
+    Deviation,
+    FiveDegrees,
+    HalfWidth,
+    By(&'static str),
+    Of(&'static str, &'static str),
+}
+
+fn row_of(alloc: Global, name: &str, what: What) -> Result<Row, &'static str>
     ensures { IfOk result (λ row. IsRegular (row_of row)) }
 {
-    if text.is_empty() {
-        return input(name);
+    match what {
+        What::Exact => input(name),
+        What::Deviation => given(name, Shape::Std { u: Dec::whole(1) }, Dof::Inf),
+        What::FiveDegrees => given(name, Shape::Std { u: Dec::whole(1) }, Dof::Whole(5)),
+        What::HalfWidth => given(
+            name,
+            Shape::Rect {
+                half: Dec::whole(1),
+            },
+            Dof::Inf,
+        ),
+        What::By(text) => function(alloc, name, text),
+        What::Of(first, second) => correlation(name, first, second),
     }
-    function(alloc, name, text)
 }
 
 #[derive(Clone, Copy)]
@@ -86,38 +125,112 @@ enum Outcome {
     Duplicate(&'static str),
     Unknown(&'static str),
     NotEarlier(&'static str),
+    NotCorrelatable(&'static str),
+    AlreadyCorrelated(&'static str),
     InUse(&'static str),
 }
 
-// An edit, the name of its row, the formula of a row that has one, what comes of the edit, and how many rows there
-// are then.
-type Case = (Kind, &'static str, &'static str, Outcome, usize);
+// An edit, the name of its row, what that is, what comes of the edit, and how many rows there are then.
+type Case = (Kind, &'static str, What, Outcome, usize);
 
-const CASES: [Case; 24] = [
-    (Kind::Add, "A", "A + 1", Outcome::NotEarlier("A"), 0),
-    (Kind::Add, "A", "B", Outcome::Unknown("B"), 0),
-    (Kind::Add, "A", "", Outcome::Fine, 1),
-    (Kind::Add, "a", "", Outcome::Fine, 2),
-    (Kind::Add, "A", "", Outcome::Duplicate("A"), 2),
-    (Kind::Add, "A", "Z", Outcome::Duplicate("A"), 2),
-    (Kind::Add, "B", "A + a * A", Outcome::Fine, 3),
-    (Kind::Add, "C", "-(B - B)^2", Outcome::Fine, 4),
-    (Kind::Add, "D", "D + Z + Y", Outcome::Unknown("Z"), 4),
-    (Kind::Add, "D", "A + D", Outcome::NotEarlier("D"), 4),
-    (Kind::Set, "Q", "Z", Outcome::Unknown("Q"), 4),
-    (Kind::Set, "B", "C + Q", Outcome::Unknown("Q"), 4),
-    (Kind::Set, "B", "A + C + B", Outcome::NotEarlier("C"), 4),
-    (Kind::Set, "A", "a", Outcome::NotEarlier("a"), 4),
-    (Kind::Set, "A", "2^3", Outcome::Fine, 4),
-    (Kind::Remove, "A", "", Outcome::InUse("B"), 4),
-    (Kind::Set, "A", "", Outcome::Fine, 4),
-    (Kind::Remove, "a", "", Outcome::InUse("B"), 4),
-    (Kind::Remove, "B", "", Outcome::InUse("C"), 4),
-    (Kind::Remove, "Q", "", Outcome::Unknown("Q"), 4),
-    (Kind::Remove, "C", "", Outcome::Fine, 3),
-    (Kind::Remove, "B", "", Outcome::Fine, 2),
-    (Kind::Set, "a", "A / 3", Outcome::Fine, 2),
-    (Kind::Remove, "A", "", Outcome::InUse("a"), 2),
+const CASES: [Case; 43] = [
+    (
+        Kind::Add,
+        "A",
+        What::By("A + 1"),
+        Outcome::NotEarlier("A"),
+        0,
+    ),
+    (Kind::Add, "A", What::By("B"), Outcome::Unknown("B"), 0),
+    (Kind::Add, "A", What::Exact, Outcome::Fine, 1),
+    (Kind::Add, "a", What::Exact, Outcome::Fine, 2),
+    (Kind::Add, "A", What::Exact, Outcome::Duplicate("A"), 2),
+    (Kind::Add, "A", What::By("Z"), Outcome::Duplicate("A"), 2),
+    (Kind::Add, "B", What::By("A + a * A"), Outcome::Fine, 3),
+    (Kind::Add, "C", What::By("-(B - B)^2"), Outcome::Fine, 4),
+    (
+        Kind::Add,
+        "D",
+        What::By("D + Z + Y"),
+        Outcome::Unknown("Z"),
+        4,
+    ),
+    (
+        Kind::Add,
+        "D",
+        What::By("A + D"),
+        Outcome::NotEarlier("D"),
+        4,
+    ),
+    (Kind::Set, "Q", What::By("Z"), Outcome::Unknown("Q"), 4),
+    (Kind::Set, "B", What::By("C + Q"), Outcome::Unknown("Q"), 4),
+    (
+        Kind::Set,
+        "B",
+        What::By("A + C + B"),
+        Outcome::NotEarlier("C"),
+        4,
+    ),
+    (Kind::Set, "A", What::By("a"), Outcome::NotEarlier("a"), 4),
+    (Kind::Set, "A", What::By("2^3"), Outcome::Fine, 4),
+    (Kind::Remove, "A", What::Exact, Outcome::InUse("B"), 4),
+    (Kind::Set, "A", What::Exact, Outcome::Fine, 4),
+    (Kind::Remove, "a", What::Exact, Outcome::InUse("B"), 4),
+    (Kind::Remove, "B", What::Exact, Outcome::InUse("C"), 4),
+    (Kind::Remove, "Q", What::Exact, Outcome::Unknown("Q"), 4),
+    (Kind::Remove, "C", What::Exact, Outcome::Fine, 3),
+    (Kind::Remove, "B", What::Exact, Outcome::Fine, 2),
+    (Kind::Set, "a", What::By("A / 3"), Outcome::Fine, 2),
+    (Kind::Remove, "A", What::Exact, Outcome::InUse("a"), 2),
+    (Kind::Add, "G", What::HalfWidth, Outcome::Fine, 3),
+    (Kind::Add, "B", What::Deviation, Outcome::Fine, 4),
+    (Kind::Add, "C", What::Deviation, Outcome::Fine, 5),
+    (
+        Kind::Add,
+        "P",
+        What::Of("G", "B"),
+        Outcome::NotCorrelatable("G"),
+        5,
+    ),
+    (Kind::Add, "P", What::Of("B", "P"), Outcome::Unknown("P"), 5),
+    (Kind::Add, "P", What::Of("B", "C"), Outcome::Fine, 6),
+    (Kind::Add, "F", What::By("B * P"), Outcome::Unknown("P"), 6),
+    (Kind::Add, "D", What::Deviation, Outcome::Fine, 7),
+    (
+        Kind::Add,
+        "Q",
+        What::Of("D", "C"),
+        Outcome::AlreadyCorrelated("C"),
+        7,
+    ),
+    (
+        Kind::Add,
+        "R",
+        What::Of("D", "D"),
+        Outcome::NotCorrelatable("D"),
+        7,
+    ),
+    (Kind::Set, "C", What::FiveDegrees, Outcome::InUse("P"), 7),
+    (Kind::Set, "P", What::Of("C", "B"), Outcome::Fine, 7),
+    (
+        Kind::Set,
+        "P",
+        What::Of("C", "D"),
+        Outcome::NotEarlier("D"),
+        7,
+    ),
+    (Kind::Add, "F", What::By("A + D"), Outcome::Fine, 8),
+    (
+        Kind::Set,
+        "D",
+        What::Of("B", "C"),
+        Outcome::AlreadyCorrelated("B"),
+        8,
+    ),
+    (Kind::Remove, "B", What::Exact, Outcome::InUse("P"), 8),
+    (Kind::Remove, "P", What::Exact, Outcome::Fine, 7),
+    (Kind::Set, "D", What::Of("B", "C"), Outcome::InUse("F"), 7),
+    (Kind::Set, "C", What::FiveDegrees, Outcome::Fine, 7),
 ];
 
 fn fault_of(outcome: Outcome) -> Result<Option<EditFault>, &'static str> {
@@ -126,6 +239,8 @@ fn fault_of(outcome: Outcome) -> Result<Option<EditFault>, &'static str> {
         Outcome::Duplicate(name) => Ok(Some(EditFault::Duplicate(name_of(name)?))),
         Outcome::Unknown(name) => Ok(Some(EditFault::Unknown(name_of(name)?))),
         Outcome::NotEarlier(name) => Ok(Some(EditFault::NotEarlier(name_of(name)?))),
+        Outcome::NotCorrelatable(name) => Ok(Some(EditFault::NotCorrelatable(name_of(name)?))),
+        Outcome::AlreadyCorrelated(name) => Ok(Some(EditFault::AlreadyCorrelated(name_of(name)?))),
         Outcome::InUse(name) => Ok(Some(EditFault::InUse(name_of(name)?))),
     }
 }
@@ -139,11 +254,11 @@ fn edit(
     alloc: Global,
     kind: Kind,
     name: &str,
-    text: &str,
+    what: What,
 ) -> Result<Option<EditFault>, &'static str> {
     match kind {
-        Kind::Add => Ok(sheet.try_add(row_of(alloc, name, text)?).err()),
-        Kind::Set => Ok(sheet.try_set(row_of(alloc, name, text)?).err()),
+        Kind::Add => Ok(sheet.try_add(row_of(alloc, name, what)?).err()),
+        Kind::Set => Ok(sheet.try_set(row_of(alloc, name, what)?).err()),
         Kind::Remove => Ok(sheet.try_remove(&name_of(name)?).err()),
     }
 }
@@ -154,8 +269,8 @@ fn is_outcome(fault: Option<EditFault>, outcome: Outcome) -> Result<bool, &'stat
 }
 
 fn run_cases(sheet: &mut Sheet, alloc: Global) -> Result<(), &'static str> {
-    for (kind, name, text, outcome, rows) in CASES {
-        let fault = edit(sheet, alloc, kind, name, text)?;
+    for (kind, name, what, outcome, rows) in CASES {
+        let fault = edit(sheet, alloc, kind, name, what)?;
         if !is_outcome(fault, outcome)? {
             return Err("another outcome");
         }

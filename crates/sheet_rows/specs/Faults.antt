@@ -1,11 +1,20 @@
--- The refusals of a row that are those of its shape.
+-- The refusals of a row that are those of its shape, or of its readings.
 use Rattle.type_b.specs.declared.shape.ShapeFault.{ShapeFault}
 use Rattle.type_b.specs.declared.shape.ShapeFault.TheVariants.{Negative as NegativeShape, ZeroK as ZeroFactor, Beta as OtherBeta, Level as OtherLevel}
+use Rattle.type_a.specs.declared.readings.ReadingsFault.{ReadingsFault}
+use Rattle.type_a.specs.declared.readings.ReadingsFault.TheVariants.{TooFew as FewReadings, TooMany as ManyReadings, Shape as OtherWidth, Wide as WideReading, OutOfMemory as ReadingsMemory}
 use Rattle.sheet_rows.specs.declared.fault.RowFault.{RowFault}
-use Rattle.sheet_rows.specs.declared.fault.RowFault.TheVariants.{Negative, ZeroK, Beta, Level}
+use Rattle.sheet_rows.specs.declared.fault.RowFault.TheVariants.{Negative, ZeroK, Beta, Level, TooFew, TooMany, Shape, Wide, OutOfMemory}
 
 abbrev pub shape_fault : ShapeFault → RowFault
 shape_fault NegativeShape = Negative
 shape_fault ZeroFactor = ZeroK
 shape_fault OtherBeta = Beta
 shape_fault OtherLevel = Level
+
+abbrev pub readings_fault : ReadingsFault → RowFault
+readings_fault FewReadings = TooFew
+readings_fault ManyReadings = TooMany
+readings_fault (OtherWidth k) = Shape k
+readings_fault (WideReading k) = Wide k
+readings_fault ReadingsMemory = OutOfMemory

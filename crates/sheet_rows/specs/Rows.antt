@@ -1,35 +1,75 @@
 -- Rows, and the sheets of which they are.
-use Rattle.std.specs.Prelude.{ℕ, List, [], ◌∷◌}
+use Rattle.std.specs.Prelude.{ℕ, ◌&&◌, Bool, true, false, List, [], ◌∷◌, bytes_eq}
+use Rattle.std.specs.List.{list_any}
 use Rattle.decimal18.specs.Bound.{Bound}
 use Rattle.formula_ast.specs.Trees.{Tree, uses, distinct}
 use Rattle.formula_ast.specs.Views.{tree_of}
 use Rattle.type_b.specs.declared.shape.Shape.{Shape}
 use Rattle.type_b.specs.declared.shape.Dof.{Dof}
+use Rattle.type_b.specs.declared.shape.Dof.TheVariants.{Inf}
+use Rattle.type_b.specs.Variances.{states_deviation}
+use Rattle.type_a.specs.Tables.{Table}
 use Rattle.sheet_rows.specs.declared.row.Row.{Row as CodeRow}
-use Rattle.sheet_rows.specs.declared.row.Row.TheVariants.{Given as CodeGiven, Formula as CodeFormula}
+use Rattle.sheet_rows.specs.declared.row.Row.TheVariants.{Given as CodeGiven, Readings as CodeReadings, Correlation as CodeCorrelation, Formula as CodeFormula}
 
 pub data Row : Type 0 where
   -- an input: its name, its estimate (JCGM 100:2008, 4.1.4), how its uncertainty is stated, and the degrees of freedom of that
   Given : List ℕ → Bound → Shape → Dof → Row
+  -- an input by its readings (4.2.1), which are a table of one column
+  Readings : List ℕ → Table → Row
+  -- the correlation coefficient of the estimates of two inputs (5.2.2)
+  Correlation : List ℕ → List ℕ → List ℕ → Bound → Row
   -- a quantity and its measurement function (4.1.1)
   Formula : List ℕ → Tree → Row
 
 abbrev pub name_of : Row → List ℕ
 name_of (Given name estimate shape dof) = name
+name_of (Readings name table) = name
+name_of (Correlation name first second coefficient) = name
 name_of (Formula name formula) = name
 
 -- the names that a row uses, in the order of use
 abbrev pub used_names : Row → List (List ℕ)
 used_names (Given name estimate shape dof) = []
+used_names (Readings name table) = []
+used_names (Correlation name first second coefficient) = first ∷ second ∷ []
 used_names (Formula name formula) = uses formula
 
 -- each of them once, in the order of first use
 abbrev pub names_used : Row → List (List ℕ)
 names_used row = distinct (used_names row)
 
--- the names that have a value by the row: here its own name; a row of another kind may give several, or none
+-- the names that have a value by the row: its own, but that of a correlation is no quantity's
 abbrev pub quantities_of : Row → List (List ℕ)
-quantities_of row = name_of row ∷ []
+quantities_of (Given name estimate shape dof) = name ∷ []
+quantities_of (Readings name table) = name ∷ []
+quantities_of (Correlation name first second coefficient) = []
+quantities_of (Formula name formula) = name ∷ []
+
+abbrev pub gives : Row → List ℕ → Bool
+gives row n = list_any (bytes_eq n) (quantities_of row)
+
+-- ---- correlations
+-- the names of the two inputs, where the row is a correlation
+abbrev pub correlated_names : Row → List (List ℕ)
+correlated_names (Given name estimate shape dof) = []
+correlated_names (Readings name table) = []
+correlated_names (Correlation name first second coefficient) = first ∷ second ∷ []
+correlated_names (Formula name formula) = []
+
+abbrev pub correlates : Row → List ℕ → Bool
+correlates row n = list_any (bytes_eq n) (correlated_names row)
+
+abbrev pub are_infinite : Dof → Bool
+are_infinite Inf = true
+are_infinite _ = false
+
+-- an input may be correlated where its standard deviation is stated, with infinitely many degrees of freedom: our rule
+abbrev pub is_correlatable : Row → Bool
+is_correlatable (Given name estimate shape dof) = states_deviation shape && are_infinite dof
+is_correlatable (Readings name table) = false
+is_correlatable (Correlation name first second coefficient) = false
+is_correlatable (Formula name formula) = false
 
 -- ---- sheets
 pub record Sheet : Type 0 where
@@ -42,4 +82,6 @@ empty_sheet = record { rows = [] }
 -- ---- what the code's rows are
 abbrev pub row_of : CodeRow → Row
 row_of (CodeGiven name estimate shape dof) = Given name estimate shape dof
+row_of (CodeReadings name readings) = Readings name readings.value
+row_of (CodeCorrelation name first second coefficient) = Correlation name first second coefficient
 row_of (CodeFormula name formula) = Formula name (tree_of formula.value)

@@ -12,7 +12,12 @@ pub enum EditFault {
     Unknown(Name),
     /// The row of this used name does not stand before the row that uses it.
     NotEarlier(Name),
-    /// The row of this name uses what would no longer be there.
+    /// A correlation has this name, whose row is no input with a stated standard deviation and infinitely many
+    /// degrees of freedom, or which is the name of both its inputs.
+    NotCorrelatable(Name),
+    /// A correlation has this name, which another correlation has too.
+    AlreadyCorrelated(Name),
+    /// The row of this name uses what would no longer be there, or correlates what could no longer be.
     InUse(Name),
     /// There was no memory for the edit.
     OutOfMemory,

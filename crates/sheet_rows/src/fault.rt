@@ -1,4 +1,5 @@
 use line_text::OutOfMemory;
+use type_a::ReadingsFault;
 use type_b::ShapeFault;
 
 /// Why a line gives no row. A place is that of the word or token that breaks a rule, counted from 1; where
@@ -30,6 +31,17 @@ pub enum RowFault {
     /// The degrees of freedom are not `inf` and not in digits from 1 to 1,000,000, or those of a relative
     /// uncertainty that is not in digits from 1 to 70 percent.
     DofRange,
+    /// The correlation coefficient is below -1 or above 1.
+    RRange,
+    /// There are fewer than 2 readings.
+    TooFew,
+    /// There are more than 1,000 readings.
+    TooMany,
+    /// This record of readings, counted from 1, has not 1 to 8 readings, or not as many as the first one.
+    Shape(usize),
+    /// This reading, counted from 1, is the first whose magnitude is 10^9 or more, or 10^15 or more units of the
+    /// finest place of all readings.
+    Wide(usize),
     /// The line goes on with a form of the language that this version does not have.
     NotBuilt,
     /// There was no memory for the row.
@@ -59,6 +71,23 @@ impl From<ShapeFault> for RowFault {
             ShapeFault::ZeroK => RowFault::ZeroK,
             ShapeFault::Beta => RowFault::Beta,
             ShapeFault::Level => RowFault::Level,
+        }
+    }
+}
+
+impl From<ReadingsFault> for RowFault {
+    ghost use Rattle.std.specs.Prelude.{◌≡◌};
+    ghost use Rattle.sheet_rows.specs.Faults.{readings_fault};
+
+    ghost from_gives = { λ fault row_fault. row_fault ≡ readings_fault fault };
+
+    fn from(fault: ReadingsFault) -> RowFault {
+        match fault {
+            ReadingsFault::TooFew => RowFault::TooFew,
+            ReadingsFault::TooMany => RowFault::TooMany,
+            ReadingsFault::Shape(place) => RowFault::Shape(place),
+            ReadingsFault::Wide(place) => RowFault::Wide(place),
+            ReadingsFault::OutOfMemory => RowFault::OutOfMemory,
         }
     }
 }

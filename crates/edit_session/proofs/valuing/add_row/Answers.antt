@@ -10,5 +10,5 @@ use Rattle.edit_session.proofs.valuing.add_row.Goals as goal
 pub add_formula-requires-clause-exponents : goal.add_formula-requires-clause-exponents
 add_formula-requires-clause-exponents g c =
     let regular = subst (λ row. IsRegular (row_of row)) c.in-Formula.is c.requires.regular in
-    subst (λ f. HasExponents (tree_of f)) (sym c.deref-in-Formula.ensures)
+    subst (λ f. HasExponents (tree_of f)) (sym c.deref-in-Formula-2.ensures)
     (read_exponents (print (tree_of c.in-Formula.formula.value)) (tree_of c.in-Formula.formula.value) regular.1)

@@ -13,3 +13,11 @@ returns-clause-whole c = refl
 pub returns-clause-relative : goal.returns-clause-relative
 unfolding digits
 returns-clause-relative c = refl
+
+pub returns-clause-readings : goal.returns-clause-readings
+unfolding digits
+returns-clause-readings c = refl
+
+pub returns-clause-correlation : goal.returns-clause-correlation
+unfolding digits
+returns-clause-correlation c = refl

@@ -2,6 +2,7 @@ use Rattle.std.proofs.Common.{refl}
 use Rattle.decimal18.specs.Literal.{parsed}
 use Rattle.formula_ast.specs.Reading.{reading_of}
 use Rattle.row_text.specs.Reading.{row_read}
+use Rattle.type_a.specs.Tables.{refusal}
 use Rattle.script_lines.specs.Commands.{line_read}
 use Rattle.script_lines.proofs.worked.worked_commands.Goals as goal
 
@@ -60,3 +61,11 @@ returns-clause-at_value c = refl
 pub returns-clause-at_dump : goal.returns-clause-at_dump
 unfolding line_read row_read reading_of parsed
 returns-clause-at_dump c = refl
+
+pub returns-clause-readings : goal.returns-clause-readings
+unfolding line_read row_read reading_of parsed refusal
+returns-clause-readings c = refl
+
+pub returns-clause-correlation : goal.returns-clause-correlation
+unfolding line_read row_read reading_of parsed refusal
+returns-clause-correlation c = refl

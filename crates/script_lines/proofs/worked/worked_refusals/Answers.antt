@@ -80,3 +80,7 @@ returns-clause-unclosed c = refl
 pub returns-clause-table : goal.returns-clause-table
 unfolding line_read row_read reading_of parsed
 returns-clause-table c = refl
+
+pub returns-clause-no_second : goal.returns-clause-no_second
+unfolding line_read row_read reading_of parsed
+returns-clause-no_second c = refl

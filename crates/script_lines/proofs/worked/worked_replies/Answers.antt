@@ -89,3 +89,31 @@ returns-clause-long_table c = refl
 pub returns-clause-open_table : goal.returns-clause-open_table
 unfolding digits
 returns-clause-open_table c = refl
+
+pub returns-clause-coefficient : goal.returns-clause-coefficient
+unfolding digits
+returns-clause-coefficient c = refl
+
+pub returns-clause-few : goal.returns-clause-few
+unfolding digits
+returns-clause-few c = refl
+
+pub returns-clause-many : goal.returns-clause-many
+unfolding digits
+returns-clause-many c = refl
+
+pub returns-clause-shape : goal.returns-clause-shape
+unfolding digits
+returns-clause-shape c = refl
+
+pub returns-clause-wide : goal.returns-clause-wide
+unfolding digits
+returns-clause-wide c = refl
+
+pub returns-clause-no_correlation : goal.returns-clause-no_correlation
+unfolding digits
+returns-clause-no_correlation c = refl
+
+pub returns-clause-correlated : goal.returns-clause-correlated
+unfolding digits
+returns-clause-correlated c = refl

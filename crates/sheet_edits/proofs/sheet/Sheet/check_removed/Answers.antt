@@ -14,14 +14,14 @@ returns-in-Some-clause-verdict c =
     let sheet = c.args.self.now in
     let n = c.args.name.now in
     let users = ap (λ rows. option_map name_of (find (λ other. list_any (bytes_eq n) (used_names other)) rows)) (sym c.rows.ensures.rows) ∙ sym c.first_user.ensures in
-    sym (remove_by_users sheet n c.args.at c.requires ∙ ap (λ u. unless u InUse (Ok (removed n sheet))) (users ∙ c.in-Some.is))
+    sym (remove_by_users sheet n c.args.at c.rows.ensures.standing.well_formed.once c.rows.ensures.standing.well_formed.known c.requires ∙ ap (λ u. unless u InUse (Ok (removed n sheet))) (users ∙ c.in-Some.is))
 
 pub returns-in-None-clause-verdict : goal.returns-in-None-clause-verdict
 returns-in-None-clause-verdict c =
     let sheet = c.args.self.now in
     let n = c.args.name.now in
     let users = ap (λ rows. option_map name_of (find (λ other. list_any (bytes_eq n) (used_names other)) rows)) (sym c.rows.ensures.rows) ∙ sym c.first_user.ensures in
-    sym (remove_by_users sheet n c.args.at c.requires ∙ ap (λ u. unless u InUse (Ok (removed n sheet))) (users ∙ c.in-None.is))
+    sym (remove_by_users sheet n c.args.at c.rows.ensures.standing.well_formed.once c.rows.ensures.standing.well_formed.known c.requires ∙ ap (λ u. unless u InUse (Ok (removed n sheet))) (users ∙ c.in-None.is))
 
 pub returns-in-None-clause-standing : goal.returns-in-None-clause-standing
 returns-in-None-clause-standing c =

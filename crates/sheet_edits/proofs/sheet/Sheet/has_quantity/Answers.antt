@@ -1,10 +1,16 @@
-use Rattle.std.proofs.Common.{is_some, sym, ◌∙◌, ap}
-use Rattle.sheet_edits.specs.Sheets.{is_named}
-use Rattle.sheet_edits.proofs.Positions.{position-any}
-use Rattle.sheet_edits.proofs.Verdicts.{quantity_is_row}
+use Rattle.std.proofs.Common.{◌∙◌, ap, sym}
+use Rattle.sheet_rows.specs.Rows.{gives}
+use Rattle.sheet_edits.proofs.Named.{holds}
+use Rattle.sheet_edits.proofs.Verdicts.{quantity_found}
 use Rattle.sheet_edits.proofs.sheet.Sheet.has_quantity.Goals as goal
 
-pub returns : goal.returns
-returns c =
-    c.is_some.ensures ∙ ap is_some c.place_of.ensures ∙ position-any (is_named c.args.name.now) c.args.self.now.rows
-    ∙ sym (quantity_is_row c.args.self.now.rows c.args.name.now)
+pub returns-in-Some : goal.returns-in-Some
+returns-in-Some c =
+    let n = c.args.name.now in
+    rw (c.gives.ensures, c.deref.ensures)
+    (sym (quantity_found c.args.self.now.rows n c.row_named.ensures.standing.well_formed.once ∙ ap (holds (λ r. gives r n) n) (sym c.in-Some.ensures.row)))
+
+pub returns-in-None : goal.returns-in-None
+returns-in-None c =
+    let n = c.args.name.now in
+    sym (quantity_found c.args.self.now.rows n c.row_named.ensures.standing.well_formed.once ∙ ap (holds (λ r. gives r n) n) (sym c.in-None.ensures.row))

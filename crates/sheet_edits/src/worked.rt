@@ -1,0 +1,50 @@
+ghost use Rattle.std.specs.Prelude.{◌≡◌, [], ◌∷◌, ◌++◌, Ok, Err};
+ghost use Rattle.sheet_rows.specs.declared.edit_fault.EditFault.TheVariants.{Duplicate, Unknown, NotEarlier, NotCorrelatable, AlreadyCorrelated, InUse};
+ghost use Rattle.sheet_edits.specs.Sheets.{verdict_add, verdict_set, verdict_remove};
+ghost use Rattle.sheet_edits.specs.WorkedSheets.{named, std, rect, std_of_five, readings, correlation, same_as, sheet, inputs, correlated, more_inputs};
+
+/// What comes of adding rows to small sheets: A is an input with half a width, B to E are inputs with a standard
+/// deviation, and P is the correlation of B and C.
+pub fn worked_additions()
+    ensures half_width { verdict_add (sheet inputs) (correlation 80 65 66 5) ≡ Err (NotCorrelatable (named 65)) }
+    ensures half_width_second { verdict_add (sheet inputs) (correlation 80 66 65 5) ≡ Err (NotCorrelatable (named 65)) }
+    ensures correlated { verdict_add (sheet inputs) (correlation 80 66 67 5) ≡ Ok (sheet correlated) }
+    ensures second_in_another { verdict_add (sheet more_inputs) (correlation 81 68 67 5) ≡ Err (AlreadyCorrelated (named 67)) }
+    ensures first_in_another { verdict_add (sheet more_inputs) (correlation 81 66 68 5) ≡ Err (AlreadyCorrelated (named 66)) }
+    ensures twice { verdict_add (sheet more_inputs) (correlation 82 68 68 5) ≡ Err (NotCorrelatable (named 68)) }
+    ensures twice_in_another { verdict_add (sheet more_inputs) (correlation 82 66 66 5) ≡ Err (NotCorrelatable (named 66)) }
+    ensures others { verdict_add (sheet more_inputs) (correlation 81 68 69 5) ≡ Ok (sheet (more_inputs ++ correlation 81 68 69 5 ∷ [])) }
+    ensures same_name { verdict_add (sheet correlated) (correlation 80 65 90 5) ≡ Err (Duplicate (named 80)) }
+    ensures no_row { verdict_add (sheet inputs) (correlation 80 65 90 5) ≡ Err (Unknown (named 90)) }
+    ensures itself { verdict_add (sheet inputs) (correlation 80 66 80 5) ≡ Err (Unknown (named 80)) }
+    ensures no_quantity { verdict_add (sheet correlated) (same_as 70 80) ≡ Err (Unknown (named 80)) }
+    ensures quantity_of_itself { verdict_add (sheet inputs) (same_as 70 70) ≡ Err (NotEarlier (named 70)) }
+    ensures mean { verdict_add (sheet (readings 77 ∷ [])) (same_as 70 77) ≡ Ok (sheet (readings 77 ∷ same_as 70 77 ∷ [])) }
+    ensures of_readings { verdict_add (sheet (readings 77 ∷ std 66 ∷ [])) (correlation 80 77 66 5) ≡ Err (NotCorrelatable (named 77)) }
+    ensures of_five { verdict_add (sheet (std_of_five 66 ∷ std 67 ∷ [])) (correlation 80 66 67 5) ≡ Err (NotCorrelatable (named 66)) }
+{}
+
+/// What comes of setting rows of these sheets.
+pub fn worked_settings()
+    ensures five_degrees { verdict_set (sheet correlated) (std_of_five 67) ≡ Err (InUse (named 80)) }
+    ensures half_width { verdict_set (sheet correlated) (rect 66) ≡ Err (InUse (named 80)) }
+    ensures readings { verdict_set (sheet correlated) (readings 66) ≡ Err (InUse (named 80)) }
+    ensures as_before { verdict_set (sheet correlated) (std 66) ≡ Ok (sheet correlated) }
+    ensures other_input { verdict_set (sheet correlated) (readings 65) ≡ Ok (sheet (readings 65 ∷ std 66 ∷ std 67 ∷ correlation 80 66 67 5 ∷ [])) }
+    ensures coefficient { verdict_set (sheet correlated) (correlation 80 66 67 9) ≡ Ok (sheet (inputs ++ correlation 80 66 67 9 ∷ [])) }
+    ensures twice { verdict_set (sheet correlated) (correlation 80 66 66 9) ≡ Err (NotCorrelatable (named 66)) }
+    ensures input_now { verdict_set (sheet correlated) (std 80) ≡ Ok (sheet (inputs ++ std 80 ∷ [])) }
+    ensures later { verdict_set (sheet more_inputs) (correlation 80 66 68 5) ≡ Err (NotEarlier (named 68)) }
+    ensures in_another { verdict_set (sheet (more_inputs ++ correlation 81 68 69 5 ∷ [])) (correlation 81 67 68 5) ≡ Err (AlreadyCorrelated (named 67)) }
+    ensures no_quantity_now { verdict_set (sheet (inputs ++ std 68 ∷ same_as 70 68 ∷ [])) (correlation 68 66 67 5) ≡ Err (InUse (named 70)) }
+    ensures unused { verdict_set (sheet (inputs ++ std 68 ∷ [])) (correlation 68 66 67 5) ≡ Ok (sheet (inputs ++ correlation 68 66 67 5 ∷ [])) }
+    ensures itself { verdict_set (sheet (inputs ++ std 68 ∷ [])) (correlation 68 66 68 5) ≡ Err (Unknown (named 68)) }
+{}
+
+/// What comes of removing rows of these sheets.
+pub fn worked_removals()
+    ensures correlated_input { verdict_remove (sheet correlated) (named 66) ≡ Err (InUse (named 80)) }
+    ensures correlation { verdict_remove (sheet correlated) (named 80) ≡ Ok (sheet inputs) }
+    ensures other_input { verdict_remove (sheet correlated) (named 65) ≡ Ok (sheet (std 66 ∷ std 67 ∷ correlation 80 66 67 5 ∷ [])) }
+    ensures no_row { verdict_remove (sheet correlated) (named 90) ≡ Err (Unknown (named 90)) }
+{}
