@@ -5,7 +5,8 @@ use Rattle.exact_fraction.specs.Fraction.{is_at_most, floor}
 use Rattle.exact_fraction.specs.Number.{of_ℤ, is_at_most_ℚ, floor_ℚ}
 use Rattle.exact_fraction.proofs.OrderLaws.{floor_ℚ-of_ℤ}
 use Rattle.decimal18.specs.Bound.{value_of}
-use Rattle.table_g2.proofs.Worked.{not_at_most, none_not_finite, infinite_not_finite, infinite_not_none, big_number, whole_number}
+use Rattle.decimal18.specs.OrderLaws.{not_at_most}
+use Rattle.table_g2.proofs.Worked.{none_not_finite, infinite_not_finite, infinite_not_none, big_number, whole_number}
 use Rattle.table_g2.proofs.sayings.worked_meanings.Goals as goal
 
 other_whole : pos 14 ≡ pos 13 → ⊥
