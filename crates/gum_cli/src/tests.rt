@@ -23,8 +23,11 @@ const SHEET: &[u8; 120] =
 const DUMP: &[u8; 116] =
     b"given X 5 std 1\nlet Y = X + 2\ngiven x 1 exact\ngiven A 1 std 1\ngiven B 2 exp 1 2\ncorr P A B -0.5\nreadings R 1 2.5\nok\n";
 
-// Lines that are refused on this sheet, and why.
-const REFUSED: [(&str, &str); 59] = [
+// What is replied to these lines.
+const MADE: &[u8; 24] = b"ok\nok\nok\nok\nok\nok\nok\nok\n";
+
+// Lines that are refused on this sheet as they stand, and why.
+const REFUSED_LINES: [(&str, &str); 32] = [
     ("let Z = X +", "syntax 12"),
     ("mark X.Y", "syntax 6"),
     ("given Z 5. std 1", "not_number 9"),
@@ -62,6 +65,11 @@ const REFUSED: [(&str, &str); 59] = [
     ("tol Z upper 1 guard 1", "not_built"),
     ("table T\nA\ndump\nend", "not_built"),
     ("var X", "not_built"),
+    ("value X\r\r", "syntax 7"),
+];
+
+// Commands that are refused on this sheet, and why.
+const REFUSED_COMMANDS: [(&str, &str); 27] = [
     ("given X 1 exact", "duplicate X"),
     ("let x = Q", "duplicate x"),
     ("let Z = Q * R", "unknown Q"),
@@ -89,7 +97,6 @@ const REFUSED: [(&str, &str); 59] = [
     ("value M", "no_such_result M"),
     ("value P", "no_such_result P"),
     ("value X.Y", "no_such_result X.Y"),
-    ("value X\r\r", "syntax 7"),
 ];
 
 // Inputs of each shape and with degrees of freedom, readings and correlations, as they are written and as they are dumped.
@@ -267,18 +274,43 @@ fn refuses_lines(rt: HostRuntime) -> Result<(), Fail> {
     Ok(())
 }
 
+// Adds a line, which has this refusal, and a `dump` to a script and to the replies that it must have.
+fn refuse(
+    script: &mut Vec<u8>,
+    wanted: &mut Vec<u8>,
+    line: &str,
+    refusal: &str,
+) -> Result<(), Fail> {
+    script.extend_from_slice(line.as_bytes())?;
+    script.extend_from_slice(b"\ndump\n")?;
+    wanted.extend_from_slice(b"refused ")?;
+    wanted.extend_from_slice(refusal.as_bytes())?;
+    wanted.extend_from_slice(b"\n")?;
+    wanted.extend_from_slice(DUMP)?;
+    Ok(())
+}
+
 // A dump is the same before and after each refused line.
 #[test]
-fn refusals_leave_the_sheet(rt: HostRuntime) -> Result<(), Fail> {
+fn refused_lines_leave_the_sheet(rt: HostRuntime) -> Result<(), Fail> {
     let mut script = SHEET.to_vec(rt.alloc())?;
-    let mut wanted = b"ok\nok\nok\nok\nok\nok\nok\nok\n".to_vec(rt.alloc())?;
-    for (line, refusal) in REFUSED {
-        script.extend_from_slice(line.as_bytes())?;
-        script.extend_from_slice(b"\ndump\n")?;
-        wanted.extend_from_slice(b"refused ")?;
-        wanted.extend_from_slice(refusal.as_bytes())?;
-        wanted.extend_from_slice(b"\n")?;
-        wanted.extend_from_slice(DUMP)?;
+    let mut wanted = MADE.to_vec(rt.alloc())?;
+    for (line, refusal) in REFUSED_LINES {
+        refuse(&mut script, &mut wanted, line, refusal)?;
+    }
+    let (status, replies) = replies_to(&rt, "run", &script)?;
+    assert_eq!(rt; status, Status::Done);
+    assert_eq!(rt; replies.as_slice(), wanted.as_slice());
+    Ok(())
+}
+
+// And before and after each refused command.
+#[test]
+fn refused_commands_leave_the_sheet(rt: HostRuntime) -> Result<(), Fail> {
+    let mut script = SHEET.to_vec(rt.alloc())?;
+    let mut wanted = MADE.to_vec(rt.alloc())?;
+    for (line, refusal) in REFUSED_COMMANDS {
+        refuse(&mut script, &mut wanted, line, refusal)?;
     }
     let (status, replies) = replies_to(&rt, "run", &script)?;
     assert_eq!(rt; status, Status::Done);

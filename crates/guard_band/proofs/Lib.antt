@@ -1,0 +1,4 @@
+pub mod Joined
+pub mod Decisions
+pub mod Exact
+pub mod OneAnswer

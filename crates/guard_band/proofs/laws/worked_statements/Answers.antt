@@ -1,0 +1,31 @@
+use Rattle.std.specs.Prelude.{refl}
+use std.Quotient.{/_rec, /_rec₂}
+use Rattle.exact_fraction.specs.Fraction as fraction
+use Rattle.exact_fraction.specs.Fraction.{◌⊕◌, ◌⊗◌, inverse, is_at_most, floor}
+use Rattle.exact_fraction.specs.Number.{◌+ℚ◌, ◌*ℚ◌, inv_ℚ, neg_ℚ, is_at_most_ℚ, floor_ℚ, min_ℚ, max_ℚ}
+use Rattle.exact_law.specs.WrittenRule.{both, either, decided, decision_by, compared, inside_over, guarded_over, near_over, all_over, decision}
+use Rattle.decimal18.specs.Bound.{value_of}
+use Rattle.decimal18.specs.Down.{is_in_range, cut_off, down, up}
+use Rattle.fixed_interval.specs.Interval.{outward}
+use Rattle.fixed_interval.specs.Rules.{holds_zero}
+use Rattle.guard_band.proofs.laws.worked_statements.Goals as goal
+
+pub returns : goal.returns
+unfolding both either decided decision_by compared inside_over guarded_over near_over all_over decision holds_zero outward min_ℚ max_ℚ value_of up down cut_off is_in_range ◌+ℚ◌ ◌*ℚ◌ inv_ℚ neg_ℚ is_at_most_ℚ floor_ℚ floor is_at_most ◌⊕◌ ◌⊗◌ inverse fraction.negated /_rec₂ /_rec
+returns c = record {
+  lower = refl;
+  upper = refl;
+  binary = refl;
+  lower_alone = refl;
+  upper_alone = refl;
+  on_a_limit = refl;
+  first = refl;
+  first_binary = refl;
+  second = refl;
+  third = refl;
+  settled = refl;
+  of_variance = refl;
+  far = refl;
+  far_square = refl;
+  wide = refl;
+}
