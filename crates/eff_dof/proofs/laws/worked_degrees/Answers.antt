@@ -1,0 +1,56 @@
+use Rattle.std.specs.Prelude.{refl}
+use std.Quotient.{/_rec, /_rec₂}
+use Rattle.exact_fraction.specs.Fraction as fraction
+use Rattle.exact_fraction.specs.Fraction.{◌⊕◌, ◌⊗◌, inverse, is_at_most, floor}
+use Rattle.exact_fraction.specs.Number.{◌+ℚ◌, ◌*ℚ◌, inv_ℚ, neg_ℚ, is_at_most_ℚ, floor_ℚ, min_ℚ, max_ℚ}
+use Rattle.decimal18.specs.Bound.{value_of}
+use Rattle.decimal18.specs.Down.{is_in_range, cut_off, down, up}
+use Rattle.fixed_interval.specs.Interval.{outward}
+use Rattle.fixed_interval.specs.Extremes.{lesser, greater}
+use Rattle.fixed_interval.specs.Rules.{holds_zero, greatest_share}
+use Rattle.eff_dof.specs.Degrees.{known_degrees}
+use Rattle.eff_dof.proofs.laws.worked_degrees.Goals as goal
+
+pub returns-clause-two : goal.returns-clause-two
+unfolding known_degrees lesser greater holds_zero greatest_share outward min_ℚ max_ℚ value_of up down cut_off is_in_range ◌+ℚ◌ ◌*ℚ◌ inv_ℚ neg_ℚ is_at_most_ℚ floor_ℚ floor is_at_most ◌⊕◌ ◌⊗◌ inverse fraction.negated /_rec₂ /_rec
+returns-clause-two c = refl
+
+pub returns-clause-relative : goal.returns-clause-relative
+unfolding known_degrees lesser greater holds_zero greatest_share outward min_ℚ max_ℚ value_of up down cut_off is_in_range ◌+ℚ◌ ◌*ℚ◌ inv_ℚ neg_ℚ is_at_most_ℚ floor_ℚ floor is_at_most ◌⊕◌ ◌⊗◌ inverse fraction.negated /_rec₂ /_rec
+returns-clause-relative c = refl
+
+pub returns-clause-infinite : goal.returns-clause-infinite
+unfolding known_degrees lesser greater holds_zero greatest_share outward min_ℚ max_ℚ value_of up down cut_off is_in_range ◌+ℚ◌ ◌*ℚ◌ inv_ℚ neg_ℚ is_at_most_ℚ floor_ℚ floor is_at_most ◌⊕◌ ◌⊗◌ inverse fraction.negated /_rec₂ /_rec
+returns-clause-infinite c = refl
+
+pub returns-clause-zero : goal.returns-clause-zero
+unfolding known_degrees lesser greater holds_zero greatest_share outward min_ℚ max_ℚ value_of up down cut_off is_in_range ◌+ℚ◌ ◌*ℚ◌ inv_ℚ neg_ℚ is_at_most_ℚ floor_ℚ floor is_at_most ◌⊕◌ ◌⊗◌ inverse fraction.negated /_rec₂ /_rec
+returns-clause-zero c = refl
+
+pub returns-clause-empty : goal.returns-clause-empty
+unfolding known_degrees lesser greater holds_zero greatest_share outward min_ℚ max_ℚ value_of up down cut_off is_in_range ◌+ℚ◌ ◌*ℚ◌ inv_ℚ neg_ℚ is_at_most_ℚ floor_ℚ floor is_at_most ◌⊕◌ ◌⊗◌ inverse fraction.negated /_rec₂ /_rec
+returns-clause-empty c = refl
+
+pub returns-clause-with_infinite : goal.returns-clause-with_infinite
+unfolding known_degrees lesser greater holds_zero greatest_share outward min_ℚ max_ℚ value_of up down cut_off is_in_range ◌+ℚ◌ ◌*ℚ◌ inv_ℚ neg_ℚ is_at_most_ℚ floor_ℚ floor is_at_most ◌⊕◌ ◌⊗◌ inverse fraction.negated /_rec₂ /_rec
+returns-clause-with_infinite c = refl
+
+pub returns-clause-with_zero : goal.returns-clause-with_zero
+unfolding known_degrees lesser greater holds_zero greatest_share outward min_ℚ max_ℚ value_of up down cut_off is_in_range ◌+ℚ◌ ◌*ℚ◌ inv_ℚ neg_ℚ is_at_most_ℚ floor_ℚ floor is_at_most ◌⊕◌ ◌⊗◌ inverse fraction.negated /_rec₂ /_rec
+returns-clause-with_zero c = refl
+
+pub returns-clause-raised : goal.returns-clause-raised
+unfolding known_degrees lesser greater holds_zero greatest_share outward min_ℚ max_ℚ value_of up down cut_off is_in_range ◌+ℚ◌ ◌*ℚ◌ inv_ℚ neg_ℚ is_at_most_ℚ floor_ℚ floor is_at_most ◌⊕◌ ◌⊗◌ inverse fraction.negated /_rec₂ /_rec
+returns-clause-raised c = refl
+
+pub returns-clause-great : goal.returns-clause-great
+unfolding known_degrees lesser greater holds_zero greatest_share outward min_ℚ max_ℚ value_of up down cut_off is_in_range ◌+ℚ◌ ◌*ℚ◌ inv_ℚ neg_ℚ is_at_most_ℚ floor_ℚ floor is_at_most ◌⊕◌ ◌⊗◌ inverse fraction.negated /_rec₂ /_rec
+returns-clause-great c = refl
+
+pub returns-clause-without_end : goal.returns-clause-without_end
+unfolding known_degrees lesser greater holds_zero greatest_share outward min_ℚ max_ℚ value_of up down cut_off is_in_range ◌+ℚ◌ ◌*ℚ◌ inv_ℚ neg_ℚ is_at_most_ℚ floor_ℚ floor is_at_most ◌⊕◌ ◌⊗◌ inverse fraction.negated /_rec₂ /_rec
+returns-clause-without_end c = refl
+
+pub returns-clause-out : goal.returns-clause-out
+unfolding known_degrees lesser greater holds_zero greatest_share outward min_ℚ max_ℚ value_of up down cut_off is_in_range ◌+ℚ◌ ◌*ℚ◌ inv_ℚ neg_ℚ is_at_most_ℚ floor_ℚ floor is_at_most ◌⊕◌ ◌⊗◌ inverse fraction.negated /_rec₂ /_rec
+returns-clause-out c = refl

@@ -1,0 +1,4 @@
+pub mod Parts
+pub mod Degrees
+pub mod Partial
+pub mod Worked

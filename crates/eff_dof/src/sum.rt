@@ -1,0 +1,70 @@
+ghost use Rattle.std.specs.Prelude.{◌≡◌, ◌∷◌, [], List, map, Some, None, Ok, pos};
+ghost use Rattle.std.specs.Option.{ok_or, unwrap_or};
+ghost use Rattle.exact_fraction.specs.Number.{of_ℤ, ◌≤ℚ◌};
+ghost use Rattle.decimal18.specs.Bound.{value_of};
+ghost use Rattle.eff_dof.specs.Parts.{AllParts, IsPartOf};
+ghost use Rattle.eff_dof.specs.Degrees.{inverse_span, variance_span};
+ghost use Rattle.eff_dof.specs.Partial.{Continues, terms_of};
+
+use crate::part::{Part, counts};
+use crate::term::term;
+use fixed_interval::{Overflow, Span, Steps, plus, zero};
+use std::sync::ledger::Ledger;
+
+// The sum with one term more.
+fn with_term<L: Ledger>(
+    sum: Option<Span>,
+    term: &Span,
+    steps: &mut Steps<L>,
+) -> Result<Option<Span>, Overflow>
+    ensures { Continues sum (Some term.now ∷ []) result }
+{
+    let next = plus(sum, term, steps)?;
+    Ok(Some(next))
+}
+
+// The sum of the parts' variances.
+pub(crate) fn variance<L: Ledger>(parts: &[Part], steps: &mut Steps<L>) -> Result<Span, Overflow>
+    ensures { result ≡ ok_or (variance_span parts.now) (record {}) }
+{
+    let mut sum = None;
+    for part in parts {
+        sum = with_term(sum, &part.variance, steps)?;
+    }
+    Ok(sum.unwrap_or(zero()))
+}
+
+// The sum with a part's term more, where the part counts.
+fn with_part<L: Ledger>(
+    sum: Option<Span>,
+    part: &Part,
+    whole: &Span,
+    steps: &mut Steps<L>,
+) -> Result<Option<Span>, Overflow>
+    requires part { IsPartOf whole.now part.now }
+    requires positive { ¬ (value_of whole.now.hi ≤ℚ of_ℤ (pos 0)) }
+    ensures { Continues sum (terms_of whole.now part.now) result }
+{
+    if !counts(part) {
+        return Ok(sum);
+    }
+    let term = term(part, whole, steps)?;
+    with_term(sum, &term, steps)
+}
+
+// The span of 1/ν of the variance.
+pub(crate) fn inverse<L: Ledger>(
+    parts: &[Part],
+    whole: &Span,
+    steps: &mut Steps<L>,
+) -> Result<Span, Overflow>
+    requires parts { AllParts (IsPartOf whole.now) parts.now }
+    requires positive { ¬ (value_of whole.now.hi ≤ℚ of_ℤ (pos 0)) }
+    ensures { result ≡ ok_or (inverse_span whole.now parts.now) (record {}) }
+{
+    let mut sum = None;
+    for part in parts {
+        sum = with_part(sum, part, whole, steps)?;
+    }
+    Ok(sum.unwrap_or(zero()))
+}
