@@ -40,7 +40,7 @@ length_last (suc p) n =
     length-append (last_digits p (n / 10)) ((48 + n % 10) ∷ []) ∙ ap (λ k. k + 1) (length_last p (n / 10)) ∙ omega arith
 
 -- the digits before the last ones, then these
-all_again : (p n : ℕ) → digits_value_after 10 (n / 10 ^ p) (last_digits p n) ≡ n
+pub all_again : (p n : ℕ) → digits_value_after 10 (n / 10 ^ p) (last_digits p n) ≡ n
 all_again zero n = omega arith
 all_again (suc p) n =
     let leading : n / 10 ^ suc p ≡ n / 10 / 10 ^ p = ap (λ t. n / t) (pow-suc 10 p ∙ turned (10 ^ p)) ∙ sym (div-div-eq-div-mul n 10 (10 ^ p)) in
@@ -80,7 +80,7 @@ point_before : (digits : List ℕ) → 0 < length digits → point_text digits �
 point_before [] some = absurd (omega arith)
 point_before (d ∷ ds) some = refl
 
-point_same : (p n : ℕ) → point_text (last_digits p n) ≡ after_point p n
+pub point_same : (p n : ℕ) → point_text (last_digits p n) ≡ after_point p n
 point_same zero n = refl
 point_same (suc p) n = point_before (last_digits (suc p) n) (omega (arith, length_last (suc p) n))
 

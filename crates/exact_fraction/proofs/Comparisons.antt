@@ -27,7 +27,7 @@ not_negative : (n : ℤ) (d : ℕ) → pos 0 ≤ℤ int_rem_euclid n (pos d)
 not_negative (pos n) d = omega (arith, ints)
 not_negative (negsuc n) d = omega (arith, ints)
 
-floor_is : (n : ℤ) (d : ℕ) → floor_of n d ≡ int_div_euclid n (pos d)
+pub floor_is : (n : ℤ) (d : ℕ) → floor_of n d ≡ int_div_euclid n (pos d)
 floor_is (pos n) d = refl
 floor_is (negsuc n) d = refl
 

@@ -61,7 +61,7 @@ times_den a k = rw (times_one (a *ℤ pos k)) (ap (λ n. a *ℤ pos n) (omega ar
 unfolding ◌⊗◌
 ⊗-den q = record { same = times_den q.num q.den }
 
-number_of-den : (q : Fraction) → number_of q *ℚ of_ℤ (pos q.den) ≡ of_ℤ q.num
+pub number_of-den : (q : Fraction) → number_of q *ℚ of_ℤ (pos q.den) ≡ of_ℤ q.num
 unfolding ◌*ℚ◌ /_rec₂ /_rec
 number_of-den q = eq/ (q ⊗ whole (pos q.den)) (whole q.num) (⊗-den q)
 

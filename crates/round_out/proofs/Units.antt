@@ -19,12 +19,8 @@ use Rattle.decimal18.proofs.Values.{value-whole}
 use Rattle.round_out.proofs.Tens.{power_not_zero, ten_to-plus, ten_to-not_zero, left_place, value_times}
 
 -- ---- whole parts
-floor_by : (z : ℤ) (n : ℕ) → int_div_euclid z (pos n) ≡ floor_of z n
-floor_by (pos a) n = refl
-floor_by (negsuc a) n = refl
-
 pub by_division : (r x z : ℤ) (n : ℕ) → r ≡ x → x ≡ int_div_euclid z (pos n) → r ≡ floor_of z n
-by_division r x z n e h = e ∙ h ∙ floor_by z n
+by_division r x z n e h = e ∙ h ∙ sym (floor_is z n)
 
 floor_zero : (z : ℤ) (n : ℕ) → pos 0 ≤ℤ z → z <ℤ pos n → floor_of z n ≡ pos 0
 floor_zero (pos a) n h k = let below : a < n = omega (arith, ints) in ap pos (div-eq_of_lt below)

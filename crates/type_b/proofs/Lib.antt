@@ -1,3 +1,3 @@
 pub mod Enclosed
-mod Quotients
+pub mod Quotients
 mod Signs
