@@ -7,12 +7,6 @@ use Rattle.covariance.specs.Gradients.{Gradient, found_at}
 use Rattle.covariance.specs.Groups.{Group, members, placed}
 use Rattle.covariance.specs.Variances.{at_key, at_places, own_term, joint_term, twice_term, row_terms, terms, cross_terms, group_variance_span, group_covariance_span, meets}
 
--- from `sum`, the sum before some terms, if it had begun, the answer is the sum with these terms more, whatever
--- terms follow; and Overflow where it has left the range of bounds, which no further terms bring back
-abbrev pub Continues : Option Interval → List (Option Interval) → Result (Option Interval) Overflow → Type 0
-Continues sum terms (Ok next) = (more : List (Option Interval)) → sum_after next more ≡ sum_after sum (terms ++ more)
-Continues sum terms (Err e) = (more : List (Option Interval)) → sum_after sum (terms ++ more) ≡ None
-
 -- the member at a place, with the place; and the members from a place on
 abbrev pub placed_at : Group ℕ → ℕ → ℕ × ℕ
 placed_at g i = (i, get_or (members g) i 0)
@@ -45,10 +39,7 @@ abbrev pub cross_rows_from : Gradient → Gradient → Group ℕ → ℕ → Lis
 cross_rows_from y z g i =
     cross_terms (at_key (found_at y)) (at_key (found_at z)) (at_places g) (placed_from g 0) (placed_from g i)
 
--- ---- groups: one term where a group counts, and none where it does not
-abbrev pub term_if : Bool → Option Interval → List (Option Interval)
-term_if counts term = if counts then term ∷ [] else []
-
+-- ---- groups
 abbrev pub part_of : Gradient → Group ℕ → List (Option Interval)
 part_of y g = term_if (meets (found_at y) g) (group_variance_span (found_at y) g)
 

@@ -8,3 +8,4 @@ pub mod Negatives
 pub mod Shares
 pub mod Halving
 pub mod Sums
+pub mod SumLoops

@@ -1,8 +1,9 @@
 -- Operations on spans that may have left the range of bounds, and sums of such spans, from the first term on.
-use Rattle.std.specs.Prelude.{List, [], ◌∷◌, Option, None, Some, IfSome}
+use Rattle.std.specs.Prelude.{◌≡◌, List, [], ◌∷◌, ◌++◌, Bool, if◌then◌else◌, Option, None, Some, IfSome, Result, Ok, Err}
 use Rattle.exact_fraction.specs.Number.{ℚ}
 use Rattle.fixed_interval.specs.Interval.{Interval, Encloses, point_span, sum_span}
 use Rattle.fixed_interval.specs.Rules.{zero_bound}
+use Rattle.fixed_interval.specs.declared.faults.Overflow.{Overflow}
 
 abbrev pub zero_span : Interval
 zero_span = point_span zero_bound
@@ -27,6 +28,16 @@ sum_of (t ∷ ts) = sum_on t ts
 abbrev pub sum_after : Option Interval → List (Option Interval) → Option Interval
 sum_after None ts = sum_of ts
 sum_after (Some s) ts = sum_on (Some s) ts
+
+-- from `sum`, the sum before some terms, if it had begun, the answer is the sum with these terms more, whatever
+-- terms follow; and Overflow where it has left the range of bounds, which no further terms bring back
+abbrev pub Continues : Option Interval → List (Option Interval) → Result (Option Interval) Overflow → Type 0
+Continues sum terms (Ok next) = (more : List (Option Interval)) → sum_after next more ≡ sum_after sum (terms ++ more)
+Continues sum terms (Err e) = (more : List (Option Interval)) → sum_after sum (terms ++ more) ≡ None
+
+-- one term where it counts, and none where it does not
+abbrev pub term_if : Bool → Option Interval → List (Option Interval)
+term_if counts term = if counts then term ∷ [] else []
 
 -- ---- what such spans enclose
 -- a span that is there encloses q

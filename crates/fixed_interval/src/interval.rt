@@ -4,7 +4,7 @@ ghost use Rattle.exact_fraction.specs.Number.{ℚ, ◌+ℚ◌, neg_ℚ, ◌≤�
 ghost use Rattle.decimal18.specs.Bound.{value_of};
 ghost use Rattle.fixed_interval.specs.Interval.{Encloses, IsOrdered, from_ends, point_span, sum_span};
 ghost use Rattle.fixed_interval.specs.Rules.{zero_bound, difference_span, negative_span};
-ghost use Rattle.fixed_interval.specs.Sums.{sum_after};
+ghost use Rattle.fixed_interval.specs.Sums.{Continues, sum_after};
 
 use crate::counter::Steps;
 use crate::faults::Overflow;
@@ -131,6 +131,24 @@ pub fn plus<L: Ledger>(
         Some(sum) => add(&sum, term, steps),
         None => Ok(*term),
     }
+}
+
+/// The sum with one term more, as a loop keeps it: nothing before the first term. It ticks once where a
+/// sum had begun.
+///
+/// # Errors
+///
+/// [`Overflow`] exactly where an end of the sum is out of the range of bounds.
+pub fn with_term<L: Ledger>(
+    sum: Option<Span>,
+    term: &Span,
+    steps: &mut Steps<L>,
+) -> Result<Option<Span>, Overflow>
+    ensures sum { Continues sum (Some term.now ∷ []) result }
+    ensures ticks { steps.new ≡ steps.old + (if is_some sum then 1 else 0) }
+{
+    let next = plus(sum, term, steps)?;
+    Ok(Some(next))
 }
 
 /// The span of the differences of a number in `a` and a number in `b`, its ends rounded outwards. It

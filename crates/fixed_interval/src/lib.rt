@@ -13,9 +13,10 @@ mod products;
 #[cfg(test)]
 mod tests;
 
+pub use bounds::{greater, is_at_most, lesser};
 pub use counter::Steps;
 pub use faults::{ArithFault, Overflow, Truth};
-pub use interval::{Span, add, ends, neg, plus, point, sub, zero};
+pub use interval::{Span, add, ends, neg, plus, point, sub, with_term, zero};
 pub use laws::{sums_enclose, worked_spans, worked_steps, worked_sums};
 pub use limits::{at_most, cut, floor_at, ratio, share};
 pub use products::{div, mul, pow, sqr};

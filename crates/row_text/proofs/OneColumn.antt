@@ -1,7 +1,7 @@
 -- Tables of one column, and their readings.
 use Rattle.std.proofs.Common.{◌≡◌, ℕ, suc, ◌<◌, [], ◌∷◌, length, get_or, refl, ◌∙◌, ap, arith, None}
 use Rattle.type_a.specs.Tables.{Table, width_of, refusal}
-use Rattle.type_a.specs.WorkedTables.{single}
+use Rattle.type_a.specs.Tables.{single}
 use Rattle.type_a.proofs.Accepted.{length_of_record}
 use Rattle.sheet_rows.specs.Regular.{AreDecimals, AllAreDecimals}
 use Rattle.row_text.specs.Printing.{one_column}

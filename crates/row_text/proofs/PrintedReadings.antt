@@ -8,7 +8,7 @@ use Rattle.formula_ast.specs.Names.{is_plain_name}
 use Rattle.line_text.specs.Words.{Word}
 use Rattle.line_text.proofs.WrittenTexts.{IsSolid}
 use Rattle.type_a.specs.Tables.{Table, refusal, unless, readings_of}
-use Rattle.type_a.specs.WorkedTables.{single}
+use Rattle.type_a.specs.Tables.{single}
 use Rattle.sheet_rows.specs.Rows.{Readings}
 use Rattle.sheet_rows.specs.Regular.{IsRegular, AreDecimals}
 use Rattle.row_text.specs.Parts.{then_read, number_of}

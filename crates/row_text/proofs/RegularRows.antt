@@ -23,7 +23,7 @@ use Rattle.type_b.specs.declared.shape.Dof.TheVariants.{Inf, Whole, Rel}
 use Rattle.type_b.specs.declared.shape.ShapeFault.{ShapeFault}
 use Rattle.sheet_rows.specs.Rows.{Row, Readings}
 use Rattle.type_a.specs.Tables.{Table, width_of, refusal, unless, readings_of}
-use Rattle.type_a.specs.WorkedTables.{single}
+use Rattle.type_a.specs.Tables.{single}
 use Rattle.type_a.specs.declared.readings.ReadingsFault.{ReadingsFault}
 use Rattle.type_a.proofs.Accepted.{at_least_two}
 use Rattle.row_text.specs.Readings.{numbers_of, table_taken, readings_of_words}

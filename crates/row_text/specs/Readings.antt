@@ -5,7 +5,7 @@ use Rattle.decimal18.specs.Bound.{Bound}
 use Rattle.decimal18.specs.Literal.{parsed}
 use Rattle.line_text.specs.Words.{Word}
 use Rattle.type_a.specs.Tables.{Table, readings_of}
-use Rattle.type_a.specs.WorkedTables.{single}
+use Rattle.type_a.specs.Tables.{single}
 use Rattle.type_a.specs.declared.readings.ReadingsFault.{ReadingsFault}
 use Rattle.sheet_rows.specs.Rows.{Row, Readings}
 use Rattle.sheet_rows.specs.Faults.{readings_fault}

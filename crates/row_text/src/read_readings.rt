@@ -4,7 +4,7 @@ ghost use Rattle.std.specs.Prelude.{◌≡◌, length, IfOk};
 ghost use Rattle.line_text.specs.Memory.{GivesBy};
 ghost use Rattle.line_text.specs.Words.{words_left};
 ghost use Rattle.type_a.specs.Tables.{table_of};
-ghost use Rattle.type_a.specs.WorkedTables.{single};
+ghost use Rattle.type_a.specs.Tables.{single};
 ghost use Rattle.sheet_rows.specs.Rows.{row_of};
 ghost use Rattle.sheet_rows.specs.Regular.{IsRegular};
 ghost use Rattle.row_text.specs.Readings.{numbers_of, readings_of_words};

@@ -4,7 +4,7 @@ ghost use Rattle.std.specs.Prelude.{◌≡◌, [], ◌∷◌, pos, negsuc, Ok, E
 ghost use Rattle.decimal18.specs.Bound.{scaled};
 ghost use Rattle.type_b.specs.declared.shape.Shape.TheVariants.{Exact, Std, Exp, Norm, Rect, Tri, Trap, Arcsine};
 ghost use Rattle.type_b.specs.declared.shape.Dof.TheVariants.{Inf, Whole, Rel};
-ghost use Rattle.type_a.specs.WorkedTables.{single};
+ghost use Rattle.type_a.specs.Tables.{single};
 ghost use Rattle.sheet_rows.specs.Rows.{Given, Readings, Correlation};
 ghost use Rattle.row_text.specs.Reading.{row_read};
 ghost use Rattle.row_text.specs.Printing.{printed};

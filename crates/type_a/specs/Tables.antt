@@ -14,6 +14,10 @@ Record = List Bound
 abbrev pub Table : Type 0
 Table = List Record
 
+-- readings of one quantity
+abbrev pub single : List Bound → Table
+single bs = map (λ b. b ∷ []) bs
+
 -- the table that the code's rows are
 abbrev pub table_of : List (Vec Bound) → Table
 table_of rows = map (λ row. row.items) rows

@@ -1,15 +1,11 @@
 -- Small tables, by which the definitions can be read.
-use Rattle.std.specs.Prelude.{ℕ, List, [], ◌∷◌, ◌++◌, replicate, map, ℤ, pos}
+use Rattle.std.specs.Prelude.{ℕ, List, [], ◌∷◌, ◌++◌, replicate, ℤ, pos}
 use Rattle.decimal18.specs.Bound.{Bound, scaled}
 use Rattle.fixed_interval.specs.Interval.{Interval}
-use Rattle.type_a.specs.Tables.{Table, Record}
+use Rattle.type_a.specs.Tables.{Table, Record, single}
 
 abbrev pub whole : ℕ → Bound
 whole n = scaled (pos n) 0
-
--- readings of one quantity
-abbrev pub single : List Bound → Table
-single bs = map (λ b. b ∷ []) bs
 
 -- ten times 1, and 2
 abbrev pub eleven : Table

@@ -2,7 +2,7 @@
 use Rattle.std.specs.Prelude.{ℕ, List, [], ◌∷◌, map, pos}
 use Rattle.decimal18.specs.Bound.{scaled}
 use Rattle.type_a.specs.Tables.{Table}
-use Rattle.type_a.specs.WorkedTables.{single}
+use Rattle.type_a.specs.Tables.{single}
 use Rattle.value_cache.specs.Quantities.{Column, Quantity}
 
 -- five readings in units of 10^-3, whose mean is 0.011

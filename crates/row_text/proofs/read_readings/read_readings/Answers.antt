@@ -1,7 +1,7 @@
 use Rattle.std.proofs.Common.{◌≡◌, sym, ◌∙◌, ap, subst}
 use Rattle.line_text.specs.Words.{words_left}
 use Rattle.type_a.specs.Tables.{table_of}
-use Rattle.type_a.specs.WorkedTables.{single}
+use Rattle.type_a.specs.Tables.{single}
 use Rattle.sheet_rows.specs.Rows.{Readings}
 use Rattle.sheet_rows.specs.Regular.{IsRegular}
 use Rattle.row_text.proofs.RegularRows.{regular_readings}

@@ -1,6 +1,6 @@
 use Rattle.std.proofs.Common.{◌≡◌, ◌++◌, drop}
 use Rattle.type_a.specs.Tables.{table_of}
-use Rattle.type_a.specs.WorkedTables.{single}
+use Rattle.type_a.specs.Tables.{single}
 use Rattle.row_text.proofs.read_readings.records_of.Given as goal
 
 abbrev pub invariant-loop-number : goal.invariant-loop-number
