@@ -1,5 +1,5 @@
 -- Small tables, by which the definitions can be read.
-use Rattle.std.specs.Prelude.{ℕ, List, [], ◌∷◌, ◌++◌, replicate, ℤ, pos}
+use Rattle.std.specs.Prelude.{ℕ, [], ◌∷◌, ◌++◌, replicate, ℤ, pos}
 use Rattle.decimal18.specs.Bound.{Bound, scaled}
 use Rattle.fixed_interval.specs.Interval.{Interval}
 use Rattle.type_a.specs.Tables.{Table, Record, single}

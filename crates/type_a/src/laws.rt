@@ -1,9 +1,9 @@
 ghost use Rattle.std.specs.Prelude.{◌≡◌, [], ◌∷◌, replicate, Some, Ok, Err, pos, negsuc};
 ghost use Rattle.decimal18.specs.Bound.{scaled};
 ghost use Rattle.type_a.specs.declared.readings.ReadingsFault.TheVariants.{TooFew, TooMany, Shape, Wide};
-ghost use Rattle.type_a.specs.Tables.{readings_of};
+ghost use Rattle.type_a.specs.Tables.{single, readings_of};
 ghost use Rattle.type_a.specs.Statistics.{mean_span, joint_span};
-ghost use Rattle.type_a.specs.WorkedTables.{whole, single, eleven, voltage_and_current, span};
+ghost use Rattle.type_a.specs.WorkedTables.{whole, eleven, voltage_and_current, span};
 
 /// The means, variances and the covariance of the voltages and the currents of JCGM 100:2008, Table H.2: 4.999 V
 /// and 19.661 mA, and deviations of 0.0032 V and 0.0095 mA with the correlation coefficient -0.36; and the
