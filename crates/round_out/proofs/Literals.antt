@@ -1,13 +1,12 @@
 -- The text of a whole number at a decimal place is a literal, and its value is that number.
-use Rattle.std.specs.Prelude.{◌≡◌, ℕ, zero, suc, ◌+◌, ◌*◌, ◌/◌, ◌%◌, ◌<◌, ◌^◌, Bool, true, false, ℤ, pos, negsuc, ◌*ℤ◌, unsigned_abs, cond, List, [], ◌∷◌, ◌++◌, length, codes, decimal, replicate, None, refl}
+use Rattle.std.specs.Prelude.{◌≡◌, ℕ, zero, suc, ◌+◌, ◌*◌, ◌/◌, ◌<◌, ◌^◌, Bool, true, false, ℤ, pos, negsuc, ◌*ℤ◌, unsigned_abs, cond, List, [], ◌∷◌, ◌++◌, length, codes, decimal, replicate, None, refl}
 use Rattle.std.proofs.Common.{sym, ◌∙◌, ap, ap₂, subst, arith, append_assoc, length-append}
-use Rattle.std.proofs.Math.Nat.{div-le_self, div-one, div-div-eq-div-mul, pow-suc}
-use Rattle.std.proofs.lemmas.Str.{digit_value_digit}
+use Rattle.std.proofs.Math.Nat.{div-le_self, pow-suc}
 use Rattle.std.proofs.lemmas.Bool.{and_from}
 use Rattle.std.proofs.lemmas.Fmt.{decimal_is_IsNumeral_wide}
 use Rattle.std.proofs.lemmas.List.Folds.{list_all-append}
 use Rattle.std.proofs.lemmas.Bool.Decides.{Decides-int_eq}
-use Rattle.std.specs.Char.{is_ascii_digit, digit_value}
+use Rattle.std.specs.Char.{is_ascii_digit}
 use Rattle.std.specs.Ordering.{int_eq}
 use Rattle.std.specs.Str.Parse.{digits_value, digits_value_after}
 use mathlib.Core.List.{append-nil}
@@ -20,9 +19,9 @@ use Rattle.exact_law.specs.Rounding.{ten_to}
 use Rattle.decimal18.specs.Bound.{scaled, value_of}
 use Rattle.decimal18.specs.Digits.{signed}
 use Rattle.decimal18.specs.Literal.{Unsigned, Minus, Sign, Literal, point_text, are_digits, is_minus, Spells, exact_of, IsLiteral}
-use Rattle.decimal18.specs.Text.{last_digits, sign_of, after_point}
+use Rattle.decimal18.specs.Text.{last_digits, sign_of}
 use Rattle.decimal18.proofs.LiteralDigits.{numerals, after-append}
-use Rattle.decimal18.proofs.TextAgain.{last_are_digits, length_last}
+use Rattle.decimal18.proofs.TextAgain.{last_are_digits, length_last, point_same, all_again}
 use Rattle.decimal18.proofs.Values.{value-whole}
 use Rattle.round_out.specs.Printed.{text_at}
 use Rattle.round_out.proofs.Tens.{power_not_zero, cancels, ten_to-inverse, left_place, value_times}
@@ -59,12 +58,6 @@ is_literal c whole after k z x d s a e f g = record {
 }
 
 -- ---- with a point
-point_same : (p n : ℕ) → point_text (last_digits (suc p) n) ≡ after_point (suc p) n
-point_same p n = by (last_digits (suc p) n) (length_last (suc p) n) where
-  by : (digits : List ℕ) → length digits ≡ suc p → point_text digits ≡ codes "." ++ digits
-  by [] h = absurd (omega arith)
-  by (d ∷ ds) h = refl
-
 size_same : (c : ℤ) → signed (is_minus (sign_before c)) (unsigned_abs c) ≡ c
 unfolding sign_before
 size_same (pos n) = refl
@@ -78,32 +71,16 @@ at_places c p =
     ∙ ap (λ t. of_ℤ c *ℚ t) (sym (ten_to-inverse (negsuc p) (suc p) (cancels p)))
     ∙ ring (of_ℤ c ∷ ten_to (negsuc p) ∷ of_ℤ (pos (10 ^ suc p)) ∷ []) (x0 :* (x1 :* x2)) ((x0 :* x1) :* x2) refl)
 
--- the digits of the whole part and those after the point are those of the number
-all_value : (p n : ℕ) → n < 10 ^ 64 → digits_value 10 (decimal (n / 10 ^ p) ++ last_digits p n) ≡ n
-all_value zero n h =
-    ap (λ t. digits_value 10 t) (append-nil (decimal (n / 1))) ∙ ap (λ k. digits_value 10 (decimal k)) (div-one n) ∙ (decimal_is_IsNumeral_wide n h).1
-all_value (suc p) n h =
-    let small : n / 10 < 10 ^ 64 = omega (arith, div-le_self n 10) in
-    let leading : n / 10 ^ suc p ≡ n / 10 / 10 ^ p = ap (λ t. n / t) (pow-suc 10 p ∙ turned (10 ^ p)) ∙ sym (div-div-eq-div-mul n 10 (10 ^ p)) in
-    ap (λ k. digits_value 10 (decimal k ++ (last_digits p (n / 10) ++ (48 + n % 10) ∷ []))) leading
-    ∙ ap (λ t. digits_value 10 t) (sym (append_assoc (decimal (n / 10 / 10 ^ p)) (last_digits p (n / 10)) ((48 + n % 10) ∷ [])))
-    ∙ after-append (decimal (n / 10 / 10 ^ p) ++ last_digits p (n / 10)) ((48 + n % 10) ∷ []) 0
-    ∙ ap₂ (λ k d. k * 10 + d) (all_value p (n / 10) small) (digit (n % 10) (omega arith)) ∙ omega arith where
-      turned : (t : ℕ) → t * 10 ≡ 10 * t
-      turned t = omega arith
-
-      digit : (d : ℕ) → d < 10 → digit_value (48 + d) ≡ d
-      digit d h = omega (arith, digit_value_digit (48 + d) (omega arith, omega arith))
-
 places_literal : (c : ℤ) (p : ℕ) → unsigned_abs c < 10 ^ 39 → IsLiteral (text_at c (negsuc p)) (of_ℤ c *ℚ ten_to (negsuc p))
 places_literal c p h =
     let size = unsigned_abs c in
     let whole = size / 10 ^ suc p in
     let small : whole < 10 ^ 64 = omega (arith, div-le_self size (10 ^ suc p)) in
     let numeral = decimal_is_IsNumeral_wide whole small in
-    subst (λ t. IsLiteral (sign_of c ++ decimal whole ++ t) (of_ℤ c *ℚ ten_to (negsuc p))) (point_same p size)
-    (is_literal c (decimal whole) (last_digits (suc p) size) size c _ (numerals.from _ (numeral.0).1) (numeral.0).0 (last_are_digits (suc p) size)
-    (all_value (suc p) size (omega arith))
+    let last = last_digits (suc p) size in
+    subst (λ t. IsLiteral (sign_of c ++ decimal whole ++ t) (of_ℤ c *ℚ ten_to (negsuc p))) (point_same (suc p) size)
+    (is_literal c (decimal whole) last size c _ (numerals.from _ (numeral.0).1) (numeral.0).0 (last_are_digits (suc p) size)
+    (after-append (decimal whole) last 0 ∙ ap (λ n. digits_value_after 10 n last) numeral.1 ∙ all_again (suc p) size)
     (size_same c)
     (ap (λ k. value_of (scaled c k)) (length_last (suc p) size) ∙ at_places c p))
 

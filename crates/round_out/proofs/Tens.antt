@@ -2,12 +2,12 @@
 use Rattle.std.specs.Prelude.{◌≡◌, ℕ, zero, suc, ◌*◌, ◌^◌, false, ℤ, pos, negsuc, ◌+ℤ◌, ◌≤ℤ◌, refl, [], ◌∷◌}
 use Rattle.std.proofs.Common.{sym, ◌∙◌, ap, arith}
 use Rattle.std.proofs.lemmas.Int.{ints}
-use Rattle.exact_fraction.specs.Number.{ℚ, of_ℤ, ◌*ℚ◌, inv_ℚ, is_zero_ℚ, ◌≤ℚ◌, ◌<ℚ◌}
+use Rattle.exact_fraction.specs.Number.{ℚ, of_ℤ, ◌*ℚ◌, is_zero_ℚ, ◌≤ℚ◌, ◌<ℚ◌}
 use Rattle.exact_fraction.specs.NumberLaws.{≤ℚ_same}
 use Rattle.exact_fraction.proofs.Strict.{below_by}
 use Rattle.exact_fraction.specs.Powers.{power}
 use Rattle.exact_fraction.proofs.OrderLaws.{of_ℤ-injective, ≤ℚ_left, ≤ℚ_right}
-use Rattle.exact_fraction.proofs.Quotients.{≢-is_zero_ℚ, *ℚ_cancel, *ℚ-/ℚ, number_of-parts, positive_not_zero}
+use Rattle.exact_fraction.proofs.Quotients.{≢-is_zero_ℚ, *ℚ_cancel, number_of-den, positive_not_zero}
 use Rattle.exact_fraction.proofs.Ring.{Whole, ◌:*◌, x0, x1, x2, ring}
 use Rattle.exact_fraction.proofs.Signs.{of_pos-*}
 use Rattle.exact_law.specs.Rounding.{ten_to}
@@ -61,10 +61,7 @@ ten_to-not_zero (negsuc n) = factor_not_zero _ _ (ten_to-inverse (negsuc n) (suc
 -- ---- decimal numbers
 pub value_times : (c : ℤ) (p : ℕ) → value_of (scaled c p) *ℚ of_ℤ (pos (10 ^ p)) ≡ of_ℤ c
 unfolding value_of
-value_times c p =
-    ap (λ t. t *ℚ of_ℤ (pos (10 ^ p))) (number_of-parts (fraction_of (scaled c p)))
-    ∙ ring (of_ℤ c ∷ inv_ℚ (of_ℤ (pos (10 ^ p))) ∷ of_ℤ (pos (10 ^ p)) ∷ []) ((x0 :* x1) :* x2) ((x0 :* x2) :* x1) refl
-    ∙ *ℚ-/ℚ (of_ℤ c) (of_ℤ (pos (10 ^ p))) (power_not_zero p)
+value_times c p = number_of-den (fraction_of (scaled c p))
 
 -- ---- the sign of a bound is that of its coefficient
 zero_at : (p : ℕ) → value_of (scaled (pos 0) p) ≡ of_ℤ (pos 0)

@@ -10,6 +10,7 @@ use Rattle.exact_fraction.specs.Fraction.{◌⊕◌, ◌⊗◌, inverse, floor, 
 use Rattle.exact_fraction.specs.Number.{of_ℤ, ◌+ℚ◌, ◌*ℚ◌, ◌/ℚ◌, inv_ℚ, floor_ℚ}
 use Rattle.exact_fraction.specs.Powers.{power}
 use Rattle.exact_fraction.specs.NumberLaws.{of_ℤ-*}
+use Rattle.exact_fraction.proofs.Comparisons.{floor_is}
 use Rattle.exact_fraction.proofs.Quotients.{*ℚ_cancel, ≡-/ℚ}
 use Rattle.exact_fraction.proofs.Ring.{Whole, ◌:*◌, x0, x1, x2, x3, ring}
 use Rattle.exact_law.specs.Rounding.{ten_to, at_place}
