@@ -26,3 +26,6 @@ pub enum Nu {
         hi: Option<Dec>,
     },
 }
+
+/// From here on degrees of freedom are not told apart.
+pub const TOLD_APART: i32 = 1_000_000_000;

@@ -12,7 +12,7 @@ mod tests;
 mod whole;
 
 pub use factors::factor;
-pub use known::{Level, Nu};
+pub use known::{Level, Nu, TOLD_APART};
 pub use laws::{
     whole_part_has_the_row, worked_conditions, worked_degrees, worked_points, worked_spans,
 };

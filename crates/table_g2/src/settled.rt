@@ -3,7 +3,7 @@ ghost use Rattle.exact_law.specs.Degrees.{Degrees};
 ghost use Rattle.table_g2.specs.Known.{Allows, AreDegrees, IsRange};
 ghost use Rattle.table_g2.specs.Said.{IsSaid, said, said_of_range};
 
-use crate::known::Nu;
+use crate::known::{Nu, TOLD_APART};
 use crate::whole::whole_part;
 use decimal18::Dec;
 use std::cmp::Ordering;
@@ -22,9 +22,6 @@ pub enum DofSaid {
     /// What is known of them does not settle it.
     Unsettled,
 }
-
-// From here on degrees of freedom are not told apart.
-const TOLD_APART: i32 = 1_000_000_000;
 
 // The whole part of both ends, where it is the same.
 fn said_of_whole_parts(least: u64, most: u64) -> DofSaid

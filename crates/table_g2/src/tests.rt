@@ -1,22 +1,13 @@
 ghost use Rattle.std.specs.Prelude.{◌≡◌, IfOk};
-ghost use Rattle.exact_fraction.specs.Number.{is_at_most_ℚ};
-ghost use Rattle.decimal18.specs.Bound.{value_of};
 ghost use Rattle.table_g2.specs.Known.{AreDegrees};
 
 use crate::{DofSaid, Level, Nu, factor, said};
 use decimal18::Dec;
-use fixed_interval::{Span, Steps};
+use fixed_interval::{Span, Steps, is_at_most};
 use std::marker::Brand;
 use std::process::Abort;
 use std::sync::ledger::{Blank, Ledger};
 use std::test::Fail;
-
-fn is_at_most(a: Dec, b: Dec) -> bool
-    ensures { result ≡ is_at_most_ℚ (value_of a) (value_of b) }
-{
-    let _canonical = (a.places(), b.places());
-    a <= b
-}
 
 // Degrees of freedom from `lo` to `hi`, by coefficient and places.
 fn range(lo: (i64, u8), hi: (i64, u8)) -> Result<Nu, &'static str>
