@@ -1,17 +1,18 @@
 -- The weights of exact shares.
-use Rattle.std.specs.Prelude.{◌≡◌, Bool, true, false, not, ◌&&◌, ◌||◌, List, [], ◌∷◌, pos, refl}
+use Rattle.std.specs.Prelude.{◌≡◌, ℕ, ◌<◌, Bool, true, false, not, ◌&&◌, ◌||◌, List, [], ◌∷◌, pos, refl}
 use Rattle.std.proofs.Common.{sym, ◌∙◌, ap, ap₂}
 use Rattle.std.proofs.lemmas.Bool.{true≢false}
 use Rattle.exact_fraction.specs.Number.{ℚ, of_ℤ, ◌+ℚ◌, ◌*ℚ◌, ◌/ℚ◌, inv_ℚ, is_zero_ℚ, ◌≤ℚ◌}
 use Rattle.exact_fraction.specs.NumberLaws.{≤ℚ_refl, ≤ℚ_trans, ≤ℚ_antisym, ≤ℚ_same, +ℚ_comm, +ℚ-zero, +ℚ-≤ℚ_both, *ℚ-inv}
-use Rattle.exact_fraction.proofs.Quotients.{is_zero_ℚ-≡, ≡-is_zero_ℚ, ≢-is_zero_ℚ}
+use Rattle.exact_fraction.proofs.Quotients.{is_zero_ℚ-≡, ≡-is_zero_ℚ, ≢-is_zero_ℚ, positive_not_zero}
 use Rattle.exact_fraction.proofs.OrderLaws.{≤ℚ_left, ≤ℚ_right, ≤ℚ_by, *ℚ-≤ℚ_left, +ℚ-not_negative, *ℚ-not_negative, square-not_negative, of_ℤ-injective}
 use Rattle.exact_fraction.proofs.Signs.{product_zero}
 use Rattle.exact_fraction.proofs.Ring.{ring, Whole, ◌:+◌, ◌:*◌, x0, x1, x2, x3}
 use Rattle.exact_fraction.specs.Sums.{total}
 use Rattle.exact_law.specs.Degrees.{Share, counts, any_counts, weight}
 use std.Quotient.{/_rec}
-use Rattle.decimal18.specs.Bound.{Bound, value_of}
+use Rattle.decimal18.specs.Bound.{Bound, scaled, value_of}
+use Rattle.decimal18.proofs.Values.{value-whole}
 use Rattle.type_b.specs.Shapes.{is_zero}
 use Rattle.fixed_interval.proofs.Inclusions.{zero_ℚ}
 
@@ -130,3 +131,7 @@ not_zero_by x t e z =
 pub zero_value : (b : Bound) → is_zero b ≡ is_zero_ℚ (value_of b)
 unfolding is_zero_ℚ value_of /_rec
 zero_value b = refl
+
+-- a whole number from 1 on is not 0
+pub whole_not_zero : (n : ℕ) → 0 < n → is_zero (scaled (pos n) 0) ≡ false
+whole_not_zero n h = zero_value (scaled (pos n) 0) ∙ ap is_zero_ℚ (value-whole (pos n)) ∙ positive_not_zero n h

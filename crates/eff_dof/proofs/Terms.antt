@@ -1,6 +1,5 @@
 -- The span of 1/ν encloses the exact one.
-use Rattle.std.specs.Prelude.{◌≡◌, ℕ, ◌*◌, ◌<◌, Bool, true, false, not, ◌&&◌, nat_le, if◌then◌else◌, List, [], ◌∷◌, map, filter, Option, None, Some, IfOk, pos, refl}
-use Rattle.std.specs.Option.{ok_or}
+use Rattle.std.specs.Prelude.{◌≡◌, ℕ, ◌*◌, ◌<◌, Bool, true, false, not, ◌&&◌, nat_le, if◌then◌else◌, List, [], ◌∷◌, map, filter, Some, pos, refl}
 use Rattle.std.proofs.Common.{sym, ◌∙◌, ap, subst, arith}
 use Rattle.std.proofs.lemmas.Bool.{and_parts, leb-true}
 use Rattle.exact_fraction.specs.Number.{ℚ, of_ℤ, ◌+ℚ◌, ◌*ℚ◌, ◌/ℚ◌, inv_ℚ, ◌≤ℚ◌}
@@ -20,34 +19,28 @@ use Rattle.fixed_interval.specs.Rules.{share_span, square_span, quotient_span}
 use Rattle.fixed_interval.specs.Powers.{then_span}
 use Rattle.fixed_interval.specs.Sums.{Holds, AllHold, zero_span}
 use Rattle.fixed_interval.proofs.Enclosures.{point_encloses, zero_encloses}
-use Rattle.fixed_interval.specs.declared.faults.ArithFault.TheVariants as fault
-use Rattle.fixed_interval.proofs.Inclusions.{zero_ℚ, square_span_encloses, quotient_encloses}
+use Rattle.fixed_interval.proofs.Inclusions.{zero_ℚ, square_span_encloses}
 use Rattle.fixed_interval.proofs.Shares.{IsAbove, is_part, share_span_encloses}
 use Rattle.fixed_interval.proofs.Sums.{some_holds, product_holds, sum_of_holds}
 use Rattle.type_b.specs.declared.shape.Dof.{Dof}
 use Rattle.type_b.specs.declared.shape.Dof.TheVariants.{Inf, Whole as WholeDegrees, Rel}
 use Rattle.type_b.specs.Shapes.{IsDegrees, inverse_degrees, is_zero, most_degrees}
 use Rattle.type_b.proofs.Enclosed.{then_holds}
+use Rattle.type_b.proofs.Quotients.{quotient_holds}
 use Rattle.eff_dof.specs.declared.part.Part.{Part}
 use Rattle.eff_dof.specs.Parts.{AllParts, IsPart, AreParts, IsPartOf, IsShareOf, AreSharesOf}
 use Rattle.eff_dof.specs.Degrees.{is_finite, counts, inverse_of_percent, over_degrees, term, terms, inverse_span, variances, variance_span}
-use Rattle.eff_dof.proofs.Sums.{quotient_by_whole}
-use Rattle.eff_dof.proofs.Exact.{IsSound, AllShares, sum_of_parts, parts-not_negative, first_within, rest_within, no_part, no_degrees, zero_value}
+use Rattle.eff_dof.proofs.Exact.{IsSound, AllShares, sum_of_parts, parts-not_negative, first_within, rest_within, no_part, no_degrees, zero_value, whole_not_zero}
 
 -- ---- degrees
 pub some_degrees : (n : ℕ) → IsDegrees (WholeDegrees n) → 0 < n
 some_degrees n h = leb-true 1 n (and_parts (nat_le 1 n) (nat_le n most_degrees) h).0
 
-held : (o : Option Interval) (q : ℚ) → IfOk (ok_or o fault.Overflow) (λ s. Encloses s q) → Holds o q
-held None q h = tt
-held (Some s) q h = h
-
 over_whole_holds : (n : ℕ) → 0 < n → (s : Interval) (q : ℚ) → Encloses s q → Holds (quotient_span s (point_span (scaled (pos n) 0))) (q /ℚ of_ℤ (pos n))
 over_whole_holds n h s q k =
     let by : Bound = scaled (pos n) 0 in
     subst (λ y. Holds (quotient_span s (point_span by)) (q /ℚ y)) (value-whole (pos n))
-    (held (quotient_span s (point_span by)) (q /ℚ value_of by)
-    (quotient_encloses s (point_span by) _ (sym (quotient_by_whole s n h)) q (value_of by) k (point_encloses by)))
+    (quotient_holds s by (whole_not_zero n h) q k)
 
 pub degrees-not_negative : (d : Dof) → zero_ℚ ≤ℚ inverse_degrees d
 degrees-not_negative Inf = ≤ℚ_refl _

@@ -1,4 +1,3 @@
 pub mod Parts
 pub mod Degrees
-pub mod Partial
 pub mod Worked

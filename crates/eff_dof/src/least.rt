@@ -1,35 +1,13 @@
 ghost use Rattle.std.specs.Prelude.{◌≡◌, ◌*◌, ◌≤◌};
-ghost use Rattle.exact_fraction.specs.Number.{is_at_most_ℚ};
-ghost use Rattle.decimal18.specs.Bound.{value_of};
 ghost use Rattle.fixed_interval.specs.Interval.{IsOrdered};
-ghost use Rattle.fixed_interval.specs.Extremes.{greater, lesser};
 ghost use Rattle.type_b.specs.Shapes.{IsDegrees};
 ghost use Rattle.eff_dof.specs.Parts.{AreOrdered, AreParts};
 ghost use Rattle.eff_dof.specs.Degrees.{counted_degrees, degrees_down, least_degrees, lesser_of};
 
 use crate::part::{Part, counts};
 use decimal18::{Dec, div_down};
+use fixed_interval::lesser;
 use type_b::Dof;
-
-pub(crate) fn is_at_most(a: Dec, b: Dec) -> bool
-    ensures { result ≡ is_at_most_ℚ (value_of a) (value_of b) }
-{
-    // Both are in canonical form, as their places tell: equal values are equal numbers.
-    let _canonical = (a.places(), b.places());
-    a <= b
-}
-
-pub(crate) fn lesser(a: Dec, b: Dec) -> Dec
-    ensures { result ≡ lesser a b }
-{
-    if is_at_most(a, b) { a } else { b }
-}
-
-pub(crate) fn greater(a: Dec, b: Dec) -> Dec
-    ensures { result ≡ greater a b }
-{
-    if is_at_most(a, b) { b } else { a }
-}
 
 // The square of a number of percent.
 pub(crate) fn square(percent: u8) -> u16

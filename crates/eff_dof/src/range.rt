@@ -4,14 +4,10 @@ ghost use Rattle.decimal18.specs.Bound.{value_of};
 ghost use Rattle.decimal18.specs.Down.{down, up};
 ghost use Rattle.eff_dof.specs.Degrees.{at_most, inverse_by, most, range, upper_end};
 
-use crate::least::{greater, is_at_most, lesser};
 use crate::part::is_zero;
 use decimal18::{Dec, div_down, div_up};
-use fixed_interval::Span;
-use table_g2::Nu;
-
-// From here on degrees of freedom are not told apart.
-const TOLD_APART: i32 = 1_000_000_000;
+use fixed_interval::{Span, greater, is_at_most, lesser};
+use table_g2::{Nu, TOLD_APART};
 
 // The number, and the most degrees that are told apart where it is greater or out of range.
 fn at_most(number: Option<Dec>) -> Dec

@@ -1,27 +1,15 @@
-ghost use Rattle.std.specs.Prelude.{◌≡◌, ◌∷◌, [], List, map, Some, None, Ok, pos};
-ghost use Rattle.std.specs.Option.{ok_or, unwrap_or};
+ghost use Rattle.std.specs.Prelude.{◌≡◌, pos};
+ghost use Rattle.std.specs.Option.{ok_or};
 ghost use Rattle.exact_fraction.specs.Number.{of_ℤ, ◌≤ℚ◌};
 ghost use Rattle.decimal18.specs.Bound.{value_of};
+ghost use Rattle.fixed_interval.specs.Sums.{Continues, term_if};
 ghost use Rattle.eff_dof.specs.Parts.{AllParts, IsPartOf};
-ghost use Rattle.eff_dof.specs.Degrees.{inverse_span, variance_span};
-ghost use Rattle.eff_dof.specs.Partial.{Continues, terms_of};
+ghost use Rattle.eff_dof.specs.Degrees.{counts, inverse_span, term, variance_span};
 
 use crate::part::{Part, counts};
 use crate::term::term;
-use fixed_interval::{Overflow, Span, Steps, plus, zero};
+use fixed_interval::{Overflow, Span, Steps, with_term, zero};
 use std::sync::ledger::Ledger;
-
-// The sum with one term more.
-fn with_term<L: Ledger>(
-    sum: Option<Span>,
-    term: &Span,
-    steps: &mut Steps<L>,
-) -> Result<Option<Span>, Overflow>
-    ensures { Continues sum (Some term.now ∷ []) result }
-{
-    let next = plus(sum, term, steps)?;
-    Ok(Some(next))
-}
 
 // The sum of the parts' variances.
 pub(crate) fn variance<L: Ledger>(parts: &[Part], steps: &mut Steps<L>) -> Result<Span, Overflow>
@@ -43,7 +31,7 @@ fn with_part<L: Ledger>(
 ) -> Result<Option<Span>, Overflow>
     requires part { IsPartOf whole.now part.now }
     requires positive { ¬ (value_of whole.now.hi ≤ℚ of_ℤ (pos 0)) }
-    ensures { Continues sum (terms_of whole.now part.now) result }
+    ensures { Continues sum (term_if (counts part.now) (term whole.now part.now)) result }
 {
     if !counts(part) {
         return Ok(sum);
