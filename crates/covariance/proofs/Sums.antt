@@ -1,19 +1,19 @@
--- Sums that loops find some terms at a time.
+-- The terms that loops over members and over groups find.
 use Rattle.std.specs.Prelude.{◌≡◌, ℕ, suc, ◌+◌, ◌<◌, ◌≤◌, List, [], ◌∷◌, ◌++◌, map, filter, drop, get_or, length, Bool, true, false, ◌||◌, if◌then◌else◌, Option, None, Some, Result, Ok, Err, is_err, refl}
 use Rattle.std.specs.Option.{ok_or, option_map, unwrap_or}
-use Rattle.std.proofs.Common.{sym, ◌∙◌, ap, ap₂, subst, arith}
-use Rattle.std.proofs.lemmas.List.{append_assoc, append-nil, drop_more, at_drop_more, at_drop_all}
+use Rattle.std.proofs.Common.{◌∙◌, ap, ap₂, subst, arith}
+use Rattle.std.proofs.lemmas.List.{drop_more, at_drop_more, at_drop_all}
 use Rattle.decimal18.specs.Bound.{Bound}
 use Rattle.fixed_interval.specs.Interval.{Interval}
 use Rattle.fixed_interval.specs.Rules.{zero_bound, floored_span}
-use Rattle.fixed_interval.specs.Sums.{sum_on, sum_of, sum_after, zero_span}
+use Rattle.fixed_interval.specs.Sums.{sum_of, zero_span, Continues, term_if}
 use Rattle.fixed_interval.specs.declared.faults.Overflow.{Overflow}
-use Rattle.fixed_interval.proofs.Sums.{sum_on-none, after_first, missing, there}
+use Rattle.fixed_interval.proofs.SumLoops.{Leaves, step_missing, at_end, whole_missing, whole_there, refused_answer}
 use Rattle.covariance.specs.declared.group.Group.{Group as CodeGroup}
 use Rattle.covariance.specs.Gradients.{Gradient, found_at}
 use Rattle.covariance.specs.Groups.{Group, members, placed, group_of, IsRegular, AreRegular}
 use Rattle.covariance.specs.Variances.{terms, cross_terms, at_key, at_places, meets, group_variance_span, group_covariance_span}
-use Rattle.covariance.specs.Partial.{Continues, term_if, placed_at, placed_from, row_at, rows_from, cross_row_at, cross_rows_from, part_of, parts_of, cross_part_of, cross_parts_of}
+use Rattle.covariance.specs.Partial.{placed_at, placed_from, row_at, rows_from, cross_row_at, cross_rows_from, part_of, parts_of, cross_part_of, cross_parts_of}
 
 -- ---- members by their places
 pub placed_from-next : (g : Group ℕ) (i : ℕ) → i < length (members g) → placed_from g i ≡ placed_at g i ∷ placed_from g (i + 1)

@@ -1,8 +1,7 @@
--- Sums of spans as code finds them, some terms at a time, over the numbers of quantities.
-use Rattle.std.specs.Prelude.{◌≡◌, ℕ, ◌+◌, List, [], ◌∷◌, ◌++◌, map, filter, drop, get_or, Bool, ◌||◌, if◌then◌else◌, Option, None, Result, Ok, Err}
+-- The terms of sums of spans, some at a time as code finds them, over the numbers of quantities.
+use Rattle.std.specs.Prelude.{ℕ, ◌+◌, List, map, filter, drop, get_or, ◌||◌, Option}
 use Rattle.fixed_interval.specs.Interval.{Interval}
-use Rattle.fixed_interval.specs.Sums.{sum_after}
-use Rattle.fixed_interval.specs.declared.faults.Overflow.{Overflow}
+use Rattle.fixed_interval.specs.Sums.{term_if}
 use Rattle.covariance.specs.Gradients.{Gradient, found_at}
 use Rattle.covariance.specs.Groups.{Group, members, placed}
 use Rattle.covariance.specs.Variances.{at_key, at_places, own_term, joint_term, twice_term, row_terms, terms, cross_terms, group_variance_span, group_covariance_span, meets}

@@ -4,16 +4,16 @@ ghost use Rattle.exact_fraction.specs.Number.{ℚ};
 ghost use Rattle.exact_fraction.specs.Sums.{total};
 ghost use Rattle.exact_law.specs.Law.{part};
 ghost use Rattle.fixed_interval.specs.Interval.{Encloses};
+ghost use Rattle.fixed_interval.specs.Sums.{Continues};
 ghost use Rattle.covariance.specs.Gradients.{AllEnclose, found_at};
 ghost use Rattle.covariance.specs.Groups.{AreRegular, IsRegular, members, exact_group, group_of};
 ghost use Rattle.covariance.specs.Variances.{group_covariance_span, combined_covariance_span};
-ghost use Rattle.covariance.specs.Partial.{Continues, placed_at, joint_at, cross_row_at, cross_part_of};
+ghost use Rattle.covariance.specs.Partial.{placed_at, joint_at, cross_row_at, cross_part_of};
 
 use crate::gradient::Gradient;
 use crate::group::Group;
-use crate::sum::with_term;
 use crate::variances::{joint_term, meets};
-use fixed_interval::{Overflow, Span, Steps, zero};
+use fixed_interval::{Overflow, Span, Steps, with_term, zero};
 use std::sync::ledger::Ledger;
 
 // The sum with the term of two members more.

@@ -6,7 +6,6 @@ mod covariances;
 mod gradient;
 mod group;
 mod laws;
-mod sum;
 mod variances;
 
 pub use covariances::covariance;

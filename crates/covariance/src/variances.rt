@@ -4,16 +4,16 @@ ghost use Rattle.exact_fraction.specs.Number.{ℚ};
 ghost use Rattle.exact_fraction.specs.Sums.{total};
 ghost use Rattle.exact_law.specs.Law.{part};
 ghost use Rattle.fixed_interval.specs.Interval.{Encloses};
+ghost use Rattle.fixed_interval.specs.Sums.{Continues};
 ghost use Rattle.covariance.specs.Gradients.{AllEnclose, found_at};
 ghost use Rattle.covariance.specs.Groups.{AreRegular, IsRegular, members, exact_group, group_of};
 ghost use Rattle.covariance.specs.Variances.{group_variance_span, meets, combined_variance_span};
-ghost use Rattle.covariance.specs.Partial.{Continues, placed_at, own_at, joint_at, twice_at, row_at, part_of};
+ghost use Rattle.covariance.specs.Partial.{placed_at, own_at, joint_at, twice_at, row_at, part_of};
 
 use crate::gradient::Gradient;
 use crate::group::Group;
-use crate::sum::with_term;
 use decimal18::Dec;
-use fixed_interval::{Overflow, Span, Steps, floor_at, mul, point, sqr, zero};
+use fixed_interval::{Overflow, Span, Steps, floor_at, mul, point, sqr, with_term, zero};
 use std::sync::ledger::Ledger;
 
 // The square of the sensitivity to a member times its variance.

@@ -8,7 +8,8 @@ use Rattle.covariance.specs.Gradients.{Gradient, found_at}
 use Rattle.covariance.specs.Groups.{group_of}
 use Rattle.covariance.specs.Variances.{combined_covariance_span}
 use Rattle.covariance.specs.Partial.{cross_part_of, cross_parts_of}
-use Rattle.covariance.proofs.Sums.{cross_parts-next, cross_parts-end, regular-next, step_there, refused_sum, sum_there}
+use Rattle.fixed_interval.proofs.SumLoops.{step_there, refused_sum, sum_there}
+use Rattle.covariance.proofs.Sums.{cross_parts-next, cross_parts-end, regular-next}
 use Rattle.covariance.proofs.Enclosed.{covariance_encloses}
 use Rattle.covariance.proofs.covariances.covariance.Goals as goal
 

@@ -4,7 +4,8 @@ use Rattle.covariance.specs.Gradients.{Gradient}
 use Rattle.covariance.specs.Groups.{Group, group_of}
 use Rattle.covariance.specs.Variances.{group_covariance_span}
 use Rattle.covariance.specs.Partial.{cross_row_at, cross_rows_from}
-use Rattle.covariance.proofs.Sums.{cross_rows-next, cross_rows-end, step_there, refused_sum, sum_there}
+use Rattle.fixed_interval.proofs.SumLoops.{step_there, refused_sum, sum_there}
+use Rattle.covariance.proofs.Sums.{cross_rows-next, cross_rows-end}
 use Rattle.covariance.proofs.covariances.group_covariance.Goals as goal
 
 pub returns-in_err-sum : goal.returns-in_err-sum

@@ -1,7 +1,7 @@
 use Rattle.std.specs.Prelude.{None}
 use Rattle.covariance.specs.Groups.{group_of}
 use Rattle.covariance.specs.Partial.{cross_rows_from}
-use Rattle.covariance.proofs.Sums.{Leaves}
+use Rattle.fixed_interval.proofs.SumLoops.{Leaves}
 use Rattle.covariance.proofs.covariances.group_covariance.Given as goal
 
 abbrev pub invariant-loop-i : goal.invariant-loop-i

@@ -7,7 +7,8 @@ use Rattle.covariance.specs.Gradients.{Gradient, found_at}
 use Rattle.covariance.specs.Groups.{Group, group_of}
 use Rattle.covariance.specs.Variances.{group_variance_span}
 use Rattle.covariance.specs.Partial.{row_at, rows_from}
-use Rattle.covariance.proofs.Sums.{rows-next, step_there, refused_group, group_there}
+use Rattle.fixed_interval.proofs.SumLoops.{step_there}
+use Rattle.covariance.proofs.Sums.{rows-next, refused_group, group_there}
 use Rattle.covariance.proofs.Enclosed.{group_encloses}
 use Rattle.covariance.proofs.variances.group_variance.Goals as goal
 

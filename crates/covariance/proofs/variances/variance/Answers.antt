@@ -8,7 +8,8 @@ use Rattle.covariance.specs.Gradients.{Gradient, found_at}
 use Rattle.covariance.specs.Groups.{group_of}
 use Rattle.covariance.specs.Variances.{combined_variance_span}
 use Rattle.covariance.specs.Partial.{part_of, parts_of}
-use Rattle.covariance.proofs.Sums.{parts-next, parts-end, regular-next, step_there, refused_sum, sum_there}
+use Rattle.fixed_interval.proofs.SumLoops.{step_there, refused_sum, sum_there}
+use Rattle.covariance.proofs.Sums.{parts-next, parts-end, regular-next}
 use Rattle.covariance.proofs.Enclosed.{variance_encloses}
 use Rattle.covariance.proofs.variances.variance.Goals as goal
 

@@ -1,7 +1,7 @@
 use Rattle.std.specs.Prelude.{None, map, drop}
 use Rattle.covariance.specs.Groups.{group_of, AreRegular}
 use Rattle.covariance.specs.Partial.{parts_of}
-use Rattle.covariance.proofs.Sums.{Leaves}
+use Rattle.fixed_interval.proofs.SumLoops.{Leaves}
 use Rattle.covariance.proofs.variances.variance.Given as goal
 
 abbrev pub invariant-loop-group : goal.invariant-loop-group

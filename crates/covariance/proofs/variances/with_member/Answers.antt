@@ -3,7 +3,8 @@ use Rattle.std.proofs.Common.{rules}
 use Rattle.fixed_interval.specs.Interval.{Interval}
 use Rattle.covariance.specs.Groups.{Group, group_of}
 use Rattle.covariance.specs.Partial.{placed_at, placed_from, twice_at, row_at}
-use Rattle.covariance.proofs.Sums.{members-next, members-end, step_there, refused_step, at_end}
+use Rattle.fixed_interval.proofs.SumLoops.{step_there, refused_step, at_end}
+use Rattle.covariance.proofs.Sums.{members-next, members-end}
 use Rattle.covariance.proofs.variances.with_member.Goals as goal
 
 pub returns-in_err-sum-2 : goal.returns-in_err-sum-2

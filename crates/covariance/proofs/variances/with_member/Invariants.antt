@@ -1,7 +1,7 @@
 use Rattle.std.specs.Prelude.{◌<◌, map}
 use Rattle.covariance.specs.Groups.{group_of}
 use Rattle.covariance.specs.Partial.{placed_at, placed_from, twice_at, row_at}
-use Rattle.covariance.proofs.Sums.{Leaves}
+use Rattle.fixed_interval.proofs.SumLoops.{Leaves}
 use Rattle.covariance.proofs.variances.with_member.Given as goal
 
 abbrev pub invariant-loop-j : goal.invariant-loop-j
