@@ -95,6 +95,37 @@ fn refuses_a_long_line(rt: HostRuntime) -> Result<(), Fail> {
     Ok(())
 }
 
+#[test]
+fn refuses_the_reading_past_the_limit(rt: HostRuntime) -> Result<(), Fail> {
+    let mut dialogue = Dialogue::new(rt.alloc());
+    dialogue.ask("given X 5 std 1", "ok")?;
+    let mut readings = String::from_str(rt.alloc(), "readings R")?;
+    for _ in 0..1_001u32 {
+        readings.push(' ')?;
+        readings.push('1')?;
+    }
+    dialogue.refuse(&readings, "refused too_many", b"given X 5 std 1\nok\n")?;
+    assert_answered!(rt; dialogue);
+    Ok(())
+}
+
+// A block of 1,048,576 blanks and their line feed.
+#[test]
+fn refuses_a_long_table(rt: HostRuntime) -> Result<(), Fail> {
+    let mut dialogue = Dialogue::new(rt.alloc());
+    dialogue.ask("given X 5 std 1", "ok")?;
+    let mut table = String::from_str(rt.alloc(), "table T\n")?;
+    for _ in 0..1_048_576u32 {
+        table.push(' ')?;
+    }
+    for letter in ['\n', 'e', 'n', 'd'] {
+        table.push(letter)?;
+    }
+    dialogue.refuse(&table, "refused long_table", b"given X 5 std 1\nok\n")?;
+    assert_answered!(rt; dialogue);
+    Ok(())
+}
+
 // Of the sheets before 257 edits the oldest, which is empty, is dropped: 256 steps lead back to t = 0.
 #[test]
 fn goes_256_steps_back_and_forward(rt: HostRuntime) -> Result<(), Fail> {
