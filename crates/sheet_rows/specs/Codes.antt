@@ -13,7 +13,7 @@ use Rattle.formula_ast.specs.Trees.{Tree, Number, Variable, Opposite, Joined, Ra
 use Rattle.formula_ast.specs.declared.token.Sign.{Sign}
 use Rattle.formula_ast.specs.declared.token.Sign.TheVariants.{Plus, Minus, Times, Over}
 use Rattle.type_a.specs.Tables.{Table}
-use Rattle.sheet_rows.specs.Rows.{Row, Given, Readings, Correlation, Formula, Sheet}
+use Rattle.sheet_rows.specs.Rows.{Row, Given, Readings, Joint, Correlation, Formula, Sheet}
 
 coded_bound : Coded Bound
 coded_bound = code_by (ℤ × ℕ) (coded× coded_ℤ coded_ℕ) (λ b. (b.coefficient, b.places)) (λ p. scaled p.0 p.1) (λ _. refl)
@@ -191,24 +191,29 @@ coded_dof : Coded Dof
 coded_dof = code_by DofParts (coded_option (coded⊎ coded_ℕ coded_ℕ)) parts_of_dof dof_of dof_again
 
 abbrev Fields : Type 0
-Fields = (List ℕ × (Bound × (Shape × Dof))) ⊎ ((List ℕ × Table) ⊎ ((List ℕ × (List ℕ × (List ℕ × Bound))) ⊎ (List ℕ × Tree)))
+Fields =
+    (List ℕ × (Bound × (Shape × Dof)))
+    ⊎ ((List ℕ × Table) ⊎ ((List ℕ × (List (List ℕ) × Table)) ⊎ ((List ℕ × (List ℕ × (List ℕ × Bound))) ⊎ (List ℕ × Tree))))
 
 fields_of : Row → Fields
 fields_of (Given name estimate shape dof) = inl (name, (estimate, (shape, dof)))
 fields_of (Readings name table) = inr (inl (name, table))
-fields_of (Correlation name first second coefficient) = inr (inr (inl (name, (first, (second, coefficient)))))
-fields_of (Formula name formula) = inr (inr (inr (name, formula)))
+fields_of (Joint name columns table) = inr (inr (inl (name, (columns, table))))
+fields_of (Correlation name first second coefficient) = inr (inr (inr (inl (name, (first, (second, coefficient))))))
+fields_of (Formula name formula) = inr (inr (inr (inr (name, formula))))
 
 row_of_fields : Fields → Row
 row_of_fields (inl (name, (estimate, (shape, dof)))) = Given name estimate shape dof
 row_of_fields (inr (inl (name, table))) = Readings name table
-row_of_fields (inr (inr (inl (name, (first, (second, coefficient)))))) = Correlation name first second coefficient
-row_of_fields (inr (inr (inr (name, formula)))) = Formula name formula
+row_of_fields (inr (inr (inl (name, (columns, table))))) = Joint name columns table
+row_of_fields (inr (inr (inr (inl (name, (first, (second, coefficient))))))) = Correlation name first second coefficient
+row_of_fields (inr (inr (inr (inr (name, formula))))) = Formula name formula
 
 row_again : (row : Row) → row_of_fields (fields_of row) ≡ row
 unfolding fields_of row_of_fields
 row_again (Given name estimate shape dof) = refl
 row_again (Readings name table) = refl
+row_again (Joint name columns table) = refl
 row_again (Correlation name first second coefficient) = refl
 row_again (Formula name formula) = refl
 
@@ -217,8 +222,9 @@ coded_row =
     code_by Fields
     (coded⊎ (coded× (coded_list coded_ℕ) (coded× coded_bound (coded× coded_shape coded_dof)))
     (coded⊎ (coded× (coded_list coded_ℕ) (coded_list (coded_list coded_bound)))
+    (coded⊎ (coded× (coded_list coded_ℕ) (coded× (coded_list (coded_list coded_ℕ)) (coded_list (coded_list coded_bound))))
     (coded⊎ (coded× (coded_list coded_ℕ) (coded× (coded_list coded_ℕ) (coded× (coded_list coded_ℕ) coded_bound)))
-    (coded× (coded_list coded_ℕ) coded_tree))))
+    (coded× (coded_list coded_ℕ) coded_tree)))))
     fields_of row_of_fields row_again
 
 -- ---- sheets

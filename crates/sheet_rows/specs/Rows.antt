@@ -1,6 +1,7 @@
 -- Rows, and the sheets of which they are.
-use Rattle.std.specs.Prelude.{ℕ, ◌&&◌, Bool, true, false, List, [], ◌∷◌, bytes_eq}
-use Rattle.std.specs.List.{list_any}
+use Rattle.std.specs.Prelude.{ℕ, ◌==◌, ◌&&◌, Bool, true, false, List, [], ◌∷◌, ◌++◌, map, get_or, bytes_eq}
+use Rattle.std.specs.List.{list_any, slice_split}
+use Rattle.line_text.specs.Characters.{point}
 use Rattle.decimal18.specs.Bound.{Bound}
 use Rattle.formula_ast.specs.Trees.{Tree, uses, distinct}
 use Rattle.formula_ast.specs.Views.{tree_of}
@@ -10,13 +11,15 @@ use Rattle.type_b.specs.declared.shape.Dof.TheVariants.{Inf}
 use Rattle.type_b.specs.Variances.{states_deviation}
 use Rattle.type_a.specs.Tables.{Table}
 use Rattle.sheet_rows.specs.declared.row.Row.{Row as CodeRow}
-use Rattle.sheet_rows.specs.declared.row.Row.TheVariants.{Given as CodeGiven, Readings as CodeReadings, Correlation as CodeCorrelation, Formula as CodeFormula}
+use Rattle.sheet_rows.specs.declared.row.Row.TheVariants.{Given as CodeGiven, Readings as CodeReadings, Joint as CodeJoint, Correlation as CodeCorrelation, Formula as CodeFormula}
 
 pub data Row : Type 0 where
   -- an input: its name, its estimate (JCGM 100:2008, 4.1.4), how its uncertainty is stated, and the degrees of freedom of that
   Given : List ℕ → Bound → Shape → Dof → Row
   -- an input by its readings (4.2.1), which are a table of one column
   Readings : List ℕ → Table → Row
+  -- inputs by their joint readings (5.2.3): the names of the columns, and a table of as many
+  Joint : List ℕ → List (List ℕ) → Table → Row
   -- the correlation coefficient of the estimates of two inputs (5.2.2)
   Correlation : List ℕ → List ℕ → List ℕ → Bound → Row
   -- a quantity and its measurement function (4.1.1)
@@ -25,6 +28,7 @@ pub data Row : Type 0 where
 abbrev pub name_of : Row → List ℕ
 name_of (Given name estimate shape dof) = name
 name_of (Readings name table) = name
+name_of (Joint name columns table) = name
 name_of (Correlation name first second coefficient) = name
 name_of (Formula name formula) = name
 
@@ -32,6 +36,7 @@ name_of (Formula name formula) = name
 abbrev pub used_names : Row → List (List ℕ)
 used_names (Given name estimate shape dof) = []
 used_names (Readings name table) = []
+used_names (Joint name columns table) = []
 used_names (Correlation name first second coefficient) = first ∷ second ∷ []
 used_names (Formula name formula) = uses formula
 
@@ -39,10 +44,23 @@ used_names (Formula name formula) = uses formula
 abbrev pub names_used : Row → List (List ℕ)
 names_used row = distinct (used_names row)
 
--- the names that have a value by the row: its own, but that of a correlation is no quantity's
+-- ---- quantities
+-- the name of the quantity of a column: that of the table and that of the column, with a point between them
+abbrev pub column_name : List ℕ → List ℕ → List ℕ
+column_name table column = table ++ point ∷ column
+
+abbrev pub column_names : List ℕ → List (List ℕ) → List (List ℕ)
+column_names table columns = map (column_name table) columns
+
+-- the name of the row of a quantity: what stands before the point, or all where there is none
+abbrev pub row_part : List ℕ → List ℕ
+row_part n = get_or (slice_split (λ byte. byte == point) n) 0 []
+
+-- the names that have a value by the row: its own, those of its columns, or none for a correlation
 abbrev pub quantities_of : Row → List (List ℕ)
 quantities_of (Given name estimate shape dof) = name ∷ []
 quantities_of (Readings name table) = name ∷ []
+quantities_of (Joint name columns table) = column_names name columns
 quantities_of (Correlation name first second coefficient) = []
 quantities_of (Formula name formula) = name ∷ []
 
@@ -54,6 +72,7 @@ gives row n = list_any (bytes_eq n) (quantities_of row)
 abbrev pub correlated_names : Row → List (List ℕ)
 correlated_names (Given name estimate shape dof) = []
 correlated_names (Readings name table) = []
+correlated_names (Joint name columns table) = []
 correlated_names (Correlation name first second coefficient) = first ∷ second ∷ []
 correlated_names (Formula name formula) = []
 
@@ -68,6 +87,7 @@ are_infinite _ = false
 abbrev pub is_correlatable : Row → Bool
 is_correlatable (Given name estimate shape dof) = states_deviation shape && are_infinite dof
 is_correlatable (Readings name table) = false
+is_correlatable (Joint name columns table) = false
 is_correlatable (Correlation name first second coefficient) = false
 is_correlatable (Formula name formula) = false
 
@@ -83,5 +103,6 @@ empty_sheet = record { rows = [] }
 abbrev pub row_of : CodeRow → Row
 row_of (CodeGiven name estimate shape dof) = Given name estimate shape dof
 row_of (CodeReadings name readings) = Readings name readings.value
+row_of (CodeJoint name columns readings) = Joint name columns readings.value
 row_of (CodeCorrelation name first second coefficient) = Correlation name first second coefficient
 row_of (CodeFormula name formula) = Formula name (tree_of formula.value)

@@ -8,5 +8,5 @@ mod row_list;
 
 pub use edit_fault::EditFault;
 pub use fault::RowFault;
-pub use row::Row;
+pub use row::{Row, column_name};
 pub use row_list::RowList;

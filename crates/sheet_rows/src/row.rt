@@ -1,6 +1,8 @@
-ghost use Rattle.std.specs.Prelude.{◌≡◌, [], ◌∷◌, IfOk};
+ghost use Rattle.std.specs.Prelude.{◌≡◌, ◌+◌, ◌≤◌, true, [], ◌∷◌, length, bytes_eq, IfOk};
+ghost use Rattle.std.specs.List.{list_any};
+ghost use Rattle.formula_ast.specs.Names.{is_plain_name};
 ghost use Rattle.formula_ast.specs.Trees.{distinct};
-ghost use Rattle.sheet_rows.specs.Rows.{row_of, name_of, names_used, gives, correlates, is_correlatable};
+ghost use Rattle.sheet_rows.specs.Rows.{row_of, name_of, names_used, column_name, column_names, gives, correlates, is_correlatable};
 
 use decimal18::Dec;
 use formula_ast::{Formula, Name, NameList, names};
@@ -31,6 +33,16 @@ pub enum Row {
         /// Its readings, in its own unit: records of one reading each.
         readings: Rc<Readings>,
     },
+    /// Inputs by their joint readings (5.2.3), a column each: the name of the quantity of a column is that of the row
+    /// and that of the column with a point between them.
+    Joint {
+        /// The name of the row, which is no quantity.
+        name: Name,
+        /// The names of the columns.
+        columns: NameList,
+        /// Their readings, each column in its own unit: records of a reading for each column.
+        readings: Rc<Readings>,
+    },
     /// The correlation of the estimates of two inputs (5.2.2).
     Correlation {
         /// The name of the row, which is no quantity.
@@ -59,6 +71,7 @@ impl Row {
         match self {
             Row::Given { name, .. } => name,
             Row::Readings { name, .. } => name,
+            Row::Joint { name, .. } => name,
             Row::Correlation { name, .. } => name,
             Row::Formula { name, .. } => name,
         }
@@ -73,7 +86,7 @@ impl Row {
         ensures { IfOk result (λ names. names ≡ names_used (row_of self.now)) }
     {
         match self {
-            Row::Given { .. } | Row::Readings { .. } => NameList::new(alloc),
+            Row::Given { .. } | Row::Readings { .. } | Row::Joint { .. } => NameList::new(alloc),
             Row::Correlation { first, second, .. } => names_of_two(alloc, *first, *second),
             Row::Formula { formula, .. } => names(alloc, formula),
         }
@@ -86,6 +99,11 @@ impl Row {
         match self {
             Row::Given { name: own, .. } => own == name,
             Row::Readings { name: own, .. } => own == name,
+            Row::Joint {
+                name: table,
+                columns,
+                ..
+            } => is_of_columns(name, table, columns.as_slice()),
             Row::Correlation { .. } => false,
             Row::Formula { name: own, .. } => own == name,
         }
@@ -115,6 +133,56 @@ impl Row {
             _ => false,
         }
     }
+}
+
+/// Whether the name is that of the column of the table.
+fn is_of_column(name: &Name, table: &Name, column: &Name) -> bool
+    ensures { result ≡ bytes_eq name.now (column_name table.now column.now) }
+{
+    let text = name.as_bytes();
+    let table = table.as_bytes();
+    let at = table.len();
+    if at >= text.len() || &text[..at] != table {
+        return false;
+    }
+    text[at] == b'.' && &text[at + 1..] == column.as_bytes()
+}
+
+/// Whether the name is that of one of these columns of the table.
+fn is_of_columns(name: &Name, table: &Name, columns: &[Name]) -> bool
+    ensures { result ≡ list_any (bytes_eq name.now) (column_names table.now columns.now) }
+{
+    for column in columns {
+        if is_of_column(name, table, column) {
+            return true;
+        }
+    }
+    false
+}
+
+/// The bytes of the two names with a point between them, put over the first ones of the text.
+fn joined<'a>(text: &'a mut [u8], table: &[u8], column: &[u8]) -> &'a [u8]
+    requires { length table.now + 1 + length column.now ≤ length text.old }
+    ensures { result.now ≡ column_name table.now column.now }
+{
+    let at = table.len();
+    let end = at + 1 + column.len();
+    text[..at].copy_from_slice(table);
+    text[at] = b'.';
+    text[at + 1..end].copy_from_slice(column);
+    &text[..end]
+}
+
+/// The name of the quantity of a column of a table, which is that of the table and that of the column with a point
+/// between them.
+pub fn column_name(table: &Name, column: &Name) -> Name
+    requires table { is_plain_name table.now ≡ true }
+    requires column { is_plain_name column.now ≡ true }
+    ensures { result ≡ column_name table.now column.now }
+{
+    let mut text = [0u8; 49];
+    let joined = joined(&mut text, table.as_bytes(), column.as_bytes());
+    Name::new(joined).unwrap()
 }
 
 /// The two names, each once.
