@@ -1,31 +1,15 @@
 -- An edit leaves a sheet standing, whatever it answers.
-use Rattle.std.proofs.Common.{◌≡◌, ℕ, Bool, true, false, cond, List, [], ◌∷◌, ◌++◌, Result, Ok, Err, sym, subst, OnOk}
+use Rattle.std.proofs.Common.{◌≡◌, ℕ, List, Result, Ok, Err, sym, subst, OnOk}
 use Rattle.sheet_rows.specs.declared.edit_fault.EditFault.{EditFault}
-use Rattle.sheet_rows.specs.Rows.{Row, Sheet, name_of}
-use Rattle.sheet_edits.specs.Sheets.{Verdict, IsAccepted, is_named, added, set_row, removed, rows_with, rows_without, verdict_add, verdict_set, verdict_remove}
+use Rattle.sheet_rows.specs.Rows.{Row, Sheet}
+use Rattle.sheet_edits.specs.Sheets.{Verdict, IsAccepted, added, set_row, removed, verdict_add, verdict_set, verdict_remove}
 use Rattle.sheet_rows.specs.Regular.{IsRegular, AreRegular}
 use Rattle.sheet_edits.specs.Standing.{IsStanding}
 use Rattle.sheet_edits.specs.Places.{IsVerdict, IsChecked}
+use Rattle.sheet_edits.proofs.Regular.{regular_added, regular_set, regular_removed}
 use Rattle.sheet_edits.proofs.Adding.{add_accepted}
 use Rattle.sheet_edits.proofs.Setting.{set_accepted}
 use Rattle.sheet_edits.proofs.Removing.{remove_accepted}
-
--- ---- the rows stay regular
-regular_added : (rows : List Row) (row : Row) → AreRegular rows → IsRegular row → AreRegular (rows ++ row ∷ [])
-regular_added [] row h g = (g, tt)
-regular_added (r ∷ rs) row h g = (h.0, regular_added rs row h.1 g)
-
-cond_regular : (t : Bool) (a b : List Row) → AreRegular a → AreRegular b → AreRegular (cond t a b)
-cond_regular true a b h g = h
-cond_regular false a b h g = g
-
-regular_set : (rows : List Row) (row : Row) → AreRegular rows → IsRegular row → AreRegular (rows_with row rows)
-regular_set [] row h g = tt
-regular_set (r ∷ rs) row h g = cond_regular (is_named (name_of row) r) (row ∷ rs) (r ∷ rows_with row rs) (g, h.1) (h.0, regular_set rs row h.1 g)
-
-regular_removed : (rows : List Row) (n : List ℕ) → AreRegular rows → AreRegular (rows_without n rows)
-regular_removed [] n h = tt
-regular_removed (r ∷ rs) n h = cond_regular (is_named n r) rs (r ∷ rows_without n rs) h.1 (h.0, regular_removed rs n h.1)
 
 -- ---- the sheet that an edit makes
 accepted_stands : (edited sheet : Sheet) → IsAccepted edited sheet → AreRegular sheet.rows → IsStanding edited
@@ -38,7 +22,7 @@ add_stands sheet edited row h g e =
 
 pub set_stands : (sheet edited : Sheet) (row : Row) → IsStanding sheet → IsRegular row → verdict_set sheet row ≡ Ok edited → IsStanding edited
 set_stands sheet edited row h g e =
-    accepted_stands edited (set_row row sheet) (set_accepted sheet row h.well_formed edited e) (regular_set sheet.rows row h.regular g)
+    accepted_stands edited (set_row row sheet) (set_accepted sheet row h.well_formed h.regular g edited e) (regular_set sheet.rows row h.regular g)
 
 pub remove_stands : (sheet edited : Sheet) (n : List ℕ) → IsStanding sheet → verdict_remove sheet n ≡ Ok edited → IsStanding edited
 remove_stands sheet edited n h e =

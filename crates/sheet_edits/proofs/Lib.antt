@@ -3,6 +3,7 @@ pub mod Conditions
 pub mod Named
 pub mod Entries
 pub mod Positions
+pub mod Regular
 pub mod Verdicts
 pub mod Correlated
 pub mod Left

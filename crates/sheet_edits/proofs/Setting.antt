@@ -1,17 +1,18 @@
 -- A row that is set leaves a well-formed sheet well formed, and is refused only where it does not.
 use Rattle.std.proofs.Common.{◌≡◌, ℕ, suc, Bool, true, false, ◌||◌, ◌&&◌, cond, not, List, [], ◌∷◌, ◌++◌, length, Option, None, Some, is_some, Ok, Err, refl, sym, ap, ◌∙◌, subst, arith, append_assoc, true≢false}
-use Rattle.std.specs.Prelude.{find}
+use Rattle.std.specs.Prelude.{find, bytes_eq}
 use Rattle.std.specs.Option.{option_map}
 use Rattle.std.specs.List.{list_any, list_all}
 use Rattle.std.proofs.lemmas.List.{append-nil}
 use Rattle.std.proofs.lemmas.Bool.{and_parts, and_from, and_right, or_parts, or_left, or_right, not_from_true, not_from_false}
-use Rattle.sheet_rows.specs.Rows.{Row, Sheet, name_of, used_names, gives}
+use Rattle.sheet_rows.specs.Rows.{Row, Sheet, name_of, row_part, used_names, gives}
+use Rattle.sheet_rows.specs.Regular.{IsRegular, AreRegular}
 use Rattle.sheet_rows.specs.declared.edit_fault.EditFault.TheVariants.{Unknown, InUse}
 use Rattle.sheet_edits.specs.Sheets.{IsWellFormed, IsAccepted, is_named, is_among, has_row, is_quantity_in, are_known, are_correlatable, are_apart, are_named_once, are_earlier, rows_with, set_row, rows_before, unless, is_left_without, unless_left, verdict_on_set, verdict_set}
 use Rattle.sheet_edits.proofs.Conditions.{ok_same, unless_ok, cond_err, none_of, all_two, all_both, found_of_none, same_name, named_itself}
 use Rattle.sheet_edits.proofs.Named.{once_head, once_tail}
 use Rattle.sheet_edits.proofs.Correlated.{apart_after_set}
-use Rattle.sheet_edits.proofs.Verdicts.{quantity_append, quantity_last, last_named, set_has, set_known, uses_ok, ok_uses}
+use Rattle.sheet_edits.proofs.Verdicts.{quantity_append, quantity_last, gives_part, set_has, set_known, uses_ok, ok_uses}
 
 -- rows before which the names stand that stood there and are quantities still
 still_earlier : (all a b rs : List Row) → ((n : List ℕ) → is_quantity_in a n ≡ true → is_quantity_in all n ≡ true → is_quantity_in b n ≡ true)
@@ -103,24 +104,22 @@ module _ (row : Row) where
   known_from p (r ∷ rs) there h = from_by p (is_named own r) r rs (rows_with row rs) there (known_from p rs) h
 
   -- ---- the rows before
-  -- the quantity of the old row is one of the new row, or no more
-  after_set : (all before : List Row) (r : Row) → own ≡ name_of r → (is_quantity_in all own ≡ gives row own) → (n : List ℕ)
+  -- a quantity of the old row is one of the new row, or no more
+  after_set : (all before : List Row) (r : Row) → IsRegular r → own ≡ name_of r
+      → ((n : List ℕ) → is_named (row_part n) row ≡ true → is_quantity_in all n ≡ gives row n) → (n : List ℕ)
       → is_quantity_in (before ++ r ∷ []) n ≡ true → is_quantity_in all n ≡ true → is_quantity_in (before ++ row ∷ []) n ≡ true
-  after_set all before r e given n h g =
+  after_set all before r regular same given n h g =
       quantity_append before (row ∷ []) n
-      ∙ after_by all before r given n (is_named own r) (is_quantity_in before n) (is_named n r) refl refl refl e
-      (sym (ap (λ t. is_quantity_in before n || t) (last_named r n)) ∙ sym (quantity_append before (r ∷ []) n) ∙ h) g
+      ∙ after_by (is_quantity_in before n) (gives r n) refl refl
+      (sym (ap (λ t. is_quantity_in before n || t) (quantity_last r n)) ∙ sym (quantity_append before (r ∷ []) n) ∙ h)
     where
-      after_by : (all before : List Row) (r : Row) → (is_quantity_in all own ≡ gives row own) → (n : List ℕ) (s t u : Bool)
-          → is_named own r ≡ s → is_quantity_in before n ≡ t → is_named n r ≡ u → own ≡ name_of r
-          → (is_quantity_in before n || (is_named n r && gives r n)) ≡ true → is_quantity_in all n ≡ true → (is_quantity_in before n || is_quantity_in (row ∷ []) n) ≡ true
-      after_by all before r given n s true u d e f same h g = or_left (is_quantity_in before n) (is_quantity_in (row ∷ []) n) e
-      after_by all before r given n s false true d e f same h g =
-          let at : n ≡ own = same_name n (name_of r) f ∙ sym same in
-          or_right (is_quantity_in before n) (is_quantity_in (row ∷ []) n)
-          (quantity_last row n ∙ ap (gives row) at ∙ sym given ∙ ap (is_quantity_in all) (sym at) ∙ g)
-      after_by all before r given n s false false d e f same h g =
-          absurd (true≢false (sym h ∙ (λ j. e j || (f j && gives r n))))
+      after_by : (t u : Bool) → is_quantity_in before n ≡ t → gives r n ≡ u → (t || u) ≡ true
+          → (is_quantity_in before n || is_quantity_in (row ∷ []) n) ≡ true
+      after_by true u e f k = or_left (is_quantity_in before n) (is_quantity_in (row ∷ []) n) e
+      after_by false true e f k =
+          let part : is_named (row_part n) row ≡ true = ap (bytes_eq (row_part n)) same ∙ gives_part r n regular f in
+          or_right (is_quantity_in before n) (is_quantity_in (row ∷ []) n) (quantity_last row n ∙ sym (given n part) ∙ g)
+      after_by false false e f k = absurd (true≢false (sym k))
 
   here : (before rs : List Row) → are_known (before ++ rows_before own (row ∷ rs)) row ≡ are_known before row
   here before rs =
@@ -132,28 +131,28 @@ module _ (row : Row) where
       ap (λ b. are_known (before ++ cond b [] (r ∷ rows_before own rs)) row) e
       ∙ ap (λ rows. are_known rows row) (sym (append_assoc before (r ∷ []) (rows_before own rs)))
 
-  module _ (all : List Row) (given : is_quantity_in all own ≡ gives row own) where
-    earlier_by : (before : List Row) (t : Bool) (r : Row) (rs : List Row) → is_named own r ≡ t → are_earlier before (r ∷ rs) ≡ true → (t || is_among rs own) ≡ true
+  module _ (all : List Row) (given : (n : List ℕ) → is_named (row_part n) row ≡ true → is_quantity_in all n ≡ gives row n) where
+    earlier_by : (before : List Row) (t : Bool) (r : Row) (rs : List Row) → IsRegular r → is_named own r ≡ t → are_earlier before (r ∷ rs) ≡ true → (t || is_among rs own) ≡ true
         → (is_among rs own ≡ true → are_known ((before ++ r ∷ []) ++ rows_before own (rows_with row rs)) row ≡ true
         → list_all (are_known all) (rows_with row rs) ≡ true → are_earlier (before ++ r ∷ []) (rows_with row rs) ≡ true)
         → are_known (before ++ rows_before own (cond t (row ∷ rs) (r ∷ rows_with row rs))) row ≡ true
         → list_all (are_known all) (cond t (row ∷ rs) (r ∷ rows_with row rs)) ≡ true
         → are_earlier before (cond t (row ∷ rs) (r ∷ rows_with row rs)) ≡ true
-    earlier_by before true r rs e h there rest k m =
+    earlier_by before true r rs regular e h there rest k m =
         and_from (are_known before row) (are_earlier (before ++ row ∷ []) rs) (sym (here before rs) ∙ k)
-        (still_earlier all (before ++ r ∷ []) (before ++ row ∷ []) rs (after_set all before r (same_name own (name_of r) e) given)
+        (still_earlier all (before ++ r ∷ []) (before ++ row ∷ []) rs (after_set all before r regular (same_name own (name_of r) e) given)
         (and_parts (are_known before r) (are_earlier (before ++ r ∷ []) rs) h).1 (and_parts (are_known all row) (list_all (are_known all) rs) m).1)
-    earlier_by before false r rs e h there rest k m =
+    earlier_by before false r rs regular e h there rest k m =
         and_from (are_known before r) (are_earlier (before ++ r ∷ []) (rows_with row rs)) (and_parts (are_known before r) (are_earlier (before ++ r ∷ []) rs) h).0
         (rest there (sym (there_later before (rows_with row rs) r e) ∙ k) (and_parts (are_known all r) (list_all (are_known all) (rows_with row rs)) m).1)
 
-    earlier_set : (before rest : List Row) → are_earlier before rest ≡ true → is_among rest own ≡ true
+    earlier_set : (before rest : List Row) → AreRegular rest → are_earlier before rest ≡ true → is_among rest own ≡ true
         → are_known (before ++ rows_before own (rows_with row rest)) row ≡ true → list_all (are_known all) (rows_with row rest) ≡ true
         → are_earlier before (rows_with row rest) ≡ true
-    earlier_set before [] h there k m = refl
-    earlier_set before (r ∷ rs) h there k m =
-        earlier_by before (is_named own r) r rs refl h there
-        (earlier_set (before ++ r ∷ []) rs (and_parts (are_known before r) (are_earlier (before ++ r ∷ []) rs) h).1) k m
+    earlier_set before [] regular h there k m = refl
+    earlier_set before (r ∷ rs) regular h there k m =
+        earlier_by before (is_named own r) r rs regular.0 refl h there
+        (earlier_set (before ++ r ∷ []) rs regular.1 (and_parts (are_known before r) (are_earlier (before ++ r ∷ []) rs) h).1) k m
 
   stands_by : (before : List Row) (t : Bool) (r : Row) (rs : List Row) → is_named own r ≡ t → (t || is_among rs own) ≡ true
       → (is_among rs own ≡ true → are_earlier (before ++ r ∷ []) (rows_with row rs) ≡ true → are_known ((before ++ r ∷ []) ++ rows_before own (rows_with row rs)) row ≡ true)
@@ -186,8 +185,8 @@ module _ (sheet : Sheet) (row : Row) where
     none_named None h = refl
     none_named (Some r) h = absurd (true≢false (ap is_some h))
 
-    pub set_accepted : (edited : Sheet) → verdict_set sheet row ≡ Ok edited → IsAccepted edited (set_row row sheet)
-    set_accepted edited h =
+    pub set_accepted : AreRegular sheet.rows → IsRegular row → (edited : Sheet) → verdict_set sheet row ≡ Ok edited → IsAccepted edited (set_row row sheet)
+    set_accepted regular own edited h =
         let there = set_parts edited h in
         let free = uses_ok (set_row row sheet) row (unless_left (set_row row sheet) row) edited there.1 in
         let users = unless_ok (option_map name_of (find (is_left_without (set_row row sheet) row) edited_rows)) InUse (Ok (set_row row sheet)) edited free.rest in
@@ -198,7 +197,8 @@ module _ (sheet : Sheet) (row : Row) where
         (sym (all_both (are_known edited_rows) (are_correlatable edited_rows) edited_rows)
         ∙ all_good row good sheet.rows whole.once (and_from (are_known edited_rows row) (are_correlatable edited_rows row) free.known free.correlatable)
         (own_or_good row good edited_rows left)) in
-        let given = set_known sheet row whole.once there.0 (name_of row) ∙ ap (λ b. cond b (gives row (name_of row)) (is_quantity_in sheet.rows (name_of row))) (named_itself (name_of row)) in
+        let given : (n : List ℕ) → is_named (row_part n) row ≡ true → is_quantity_in edited_rows n ≡ gives row n =
+        λ n part. set_known sheet row regular own whole.once there.0 n ∙ ap (λ b. cond b (gives row n) (is_quantity_in sheet.rows n)) part in
         record {
           is = sym same;
           well_formed =
@@ -207,7 +207,7 @@ module _ (sheet : Sheet) (row : Row) where
                 limit = omega (arith, whole.limit, length_set row sheet.rows);
                 once = once_set row sheet.rows ∙ whole.once;
                 known = both.0;
-                earlier = earlier_set row edited_rows given [] sheet.rows whole.earlier there.0 free.earlier both.0;
+                earlier = earlier_set row edited_rows given [] sheet.rows regular whole.earlier there.0 free.earlier both.0;
                 correlatable = both.1;
                 apart = apart_after_set row sheet.rows whole.apart free.apart;
               });

@@ -1,20 +1,24 @@
 -- The verdicts, by the places of names.
 use Rattle.std.proofs.Common.{◌≡◌, ℕ, zero, suc, Bool, true, false, ◌||◌, ◌&&◌, cond, not, nat_le, List, [], ◌∷◌, ◌++◌, length, take, Option, None, Some, Ok, Err, is_some, refl, sym, ap, ◌∙◌, true≢false, ◌<◌, arith}
-use Rattle.std.specs.Prelude.{position, find, bytes_eq, remove, slice_get, slice_set as set}
-use Rattle.std.specs.List.{list_any, list_all}
+use Rattle.std.specs.Prelude.{if◌then◌else◌, position, find, bytes_eq, remove, slice_get, slice_set as set}
+use Rattle.std.specs.List.{list_any}
 use Rattle.std.specs.Option.{option_map, option_or}
 use Rattle.std.proofs.lemmas.List.{take_all, append_assoc}
 use Rattle.std.proofs.lemmas.List.Folds.{list_any-append}
 use Rattle.sheet_rows.specs.declared.edit_fault.EditFault.TheVariants.{RowsFull, Duplicate, Unknown, NotEarlier, NotCorrelatable, AlreadyCorrelated, InUse}
-use Rattle.sheet_rows.specs.Rows.{Row, Sheet, Given, Readings, Correlation, Formula, name_of, used_names, quantities_of, gives, correlated_names, is_correlatable}
+use Rattle.formula_ast.specs.Names.{is_plain_name}
+use Rattle.sheet_rows.specs.Regular.{IsRegular, AreRegular}
+use Rattle.sheet_rows.proofs.Parts.{row_part-plain, row_part-column}
+use Rattle.sheet_edits.proofs.Regular.{regular_added, regular_set, regular_taken, no_row}
+use Rattle.sheet_rows.specs.Rows.{Row, Sheet, Given, Readings, Joint, Correlation, Formula, column_name, column_names, row_part, name_of, used_names, quantities_of, gives, correlated_names, is_correlatable}
 use Rattle.sheet_edits.specs.Sheets.{Verdict, is_named, is_among, has_row, quantities_in, is_quantity_in, has_quantity, is_correlatable_in, repeated_name, is_correlated_apart, are_named_once, are_known, are_correlatable, are_apart, first_unknown, first_not_earlier, first_not_correlatable, first_correlated, row_limit, added, rows_with, set_row, rows_without, removed, rows_before, unless, unless_uses_fail, unless_left, verdict_add, verdict_set, verdict_on_set, is_user_of, verdict_remove, verdict_on_removal}
 use Rattle.sheet_edits.specs.Places.{place_of, is_known_with, is_correlatable_with, stands_before, unless_names_fail}
 use Rattle.std.proofs.Math.Bool.{or-false}
-use Rattle.std.proofs.lemmas.Bool.{lt-leb, and_parts, and_right, or_parts}
+use Rattle.std.proofs.lemmas.Bool.{lt-leb, and_right, or_parts}
 use Rattle.sheet_edits.proofs.Conditions.{unless_ok, none_all, all_none, same_name, named_itself}
 use Rattle.sheet_edits.proofs.Named.{holds, has_none, has_found, has_before, has_added, has_set}
 use Rattle.sheet_edits.proofs.Correlated.{apart_added, apart_set, correlatable_allowed, allowed_correlatable, apart_allowed, allowed_apart}
-use Rattle.sheet_edits.proofs.Positions.{position-any, before-any, IsFirstAt, first_at, find_agree, find_distinct}
+use Rattle.sheet_edits.proofs.Positions.{some_same, position-any, before-any, IsFirstAt, first_at, find_agree, find_distinct}
 
 -- ---- quantities
 quantities_append : (xs ys : List Row) → quantities_in (xs ++ ys) ≡ quantities_in xs ++ quantities_in ys
@@ -26,37 +30,59 @@ quantities_append (r ∷ rs) ys =
 pub quantity_append : (xs ys : List Row) (n : List ℕ) → is_quantity_in (xs ++ ys) n ≡ (is_quantity_in xs n || is_quantity_in ys n)
 quantity_append xs ys n = ap (list_any (bytes_eq n)) (quantities_append xs ys) ∙ list_any-append (bytes_eq n) (quantities_in xs) (quantities_in ys)
 
-own_given : (t : Bool) → (t || false) ≡ (t && (t || false))
-own_given true = refl
-own_given false = refl
+-- a name is a quantity where a row gives it
+pub quantity_any : (xs : List Row) (n : List ℕ) → is_quantity_in xs n ≡ list_any (λ r. gives r n) xs
+quantity_any [] n = refl
+quantity_any (r ∷ rs) n = list_any-append (bytes_eq n) (quantities_of r) (quantities_in rs) ∙ ap (λ b. gives r n || b) (quantity_any rs n)
 
--- a row gives no other name than its own
-gives_named : (r : Row) (n : List ℕ) → gives r n ≡ (is_named n r && gives r n)
-gives_named (Given name estimate shape dof) n = own_given (bytes_eq n name)
-gives_named (Readings name table) n = own_given (bytes_eq n name)
-gives_named (Correlation name first second coefficient) n = sym (and_right (bytes_eq n name) false refl)
-gives_named (Formula name formula) n = own_given (bytes_eq n name)
+sole_name : (n name : List ℕ) → is_plain_name name ≡ true → (bytes_eq n name || false) ≡ true → bytes_eq (row_part n) name ≡ true
+sole_name n name plain h =
+    ap (λ m. bytes_eq (row_part m) name) (same_name n name (sym (or-false (bytes_eq n name)) ∙ h))
+    ∙ ap (λ m. bytes_eq m name) (row_part-plain name plain) ∙ named_itself name
 
--- the row of the name gives it
-pub quantity_named : (xs : List Row) (n : List ℕ) → is_quantity_in xs n ≡ list_any (λ r. is_named n r && gives r n) xs
-quantity_named [] n = refl
-quantity_named (r ∷ rs) n =
-    let first = gives_named r n in
-    let rest = quantity_named rs n in
+column_part : (n table : List ℕ) (columns : List (List ℕ)) → is_plain_name table ≡ true → list_any (bytes_eq n) (column_names table columns) ≡ true
+    → bytes_eq (row_part n) table ≡ true
+column_part n table [] plain h = absurd (true≢false (sym h))
+column_part n table (c ∷ cs) plain h = by (bytes_eq n (column_name table c)) refl h (column_part n table cs plain) where
+  by : (t : Bool) → bytes_eq n (column_name table c) ≡ t → (t || list_any (bytes_eq n) (column_names table cs)) ≡ true
+      → (list_any (bytes_eq n) (column_names table cs) ≡ true → bytes_eq (row_part n) table ≡ true) → bytes_eq (row_part n) table ≡ true
+  by true e g rest =
+      ap (λ m. bytes_eq (row_part m) table) (same_name n (column_name table c) e)
+      ∙ ap (λ m. bytes_eq m table) (row_part-column table c plain) ∙ named_itself table
+  by false e g rest = rest g
+
+-- the row of a quantity is that of the name before the point
+pub gives_part : (r : Row) (n : List ℕ) → IsRegular r → gives r n ≡ true → is_named (row_part n) r ≡ true
+gives_part (Given name estimate shape dof) n h e = sole_name n name h.0 e
+gives_part (Readings name table) n h e = sole_name n name h.0 e
+gives_part (Joint name columns table) n h e = column_part n name columns h.0 e
+gives_part (Correlation name first second coefficient) n h e = absurd (true≢false (sym e))
+gives_part (Formula name formula) n h e = sole_name n name h.0 e
+
+gives_named : (r : Row) (n : List ℕ) → IsRegular r → gives r n ≡ (is_named (row_part n) r && gives r n)
+gives_named r n h = by (gives r n) refl where
+  by : (t : Bool) → gives r n ≡ t → t ≡ (is_named (row_part n) r && t)
+  by true e = sym (ap (λ t. t && true) (gives_part r n h e))
+  by false e = sym (and_right (is_named (row_part n) r) false refl)
+
+-- the row of that name gives it
+pub quantity_named : (xs : List Row) (n : List ℕ) → AreRegular xs → is_quantity_in xs n ≡ list_any (λ r. is_named (row_part n) r && gives r n) xs
+quantity_named [] n h = refl
+quantity_named (r ∷ rs) n h =
+    let first = gives_named r n h.0 in
+    let rest = quantity_named rs n h.1 in
     list_any-append (bytes_eq n) (quantities_of r) (quantities_in rs) ∙ (λ j. first j || rest j)
 
 -- the quantities of one row
 pub quantity_last : (r : Row) (n : List ℕ) → is_quantity_in (r ∷ []) n ≡ gives r n
 quantity_last r n = list_any-append (bytes_eq n) (quantities_of r) [] ∙ or-false (gives r n)
 
-pub last_named : (r : Row) (n : List ℕ) → is_quantity_in (r ∷ []) n ≡ (is_named n r && gives r n)
-last_named r n = quantity_last r n ∙ gives_named r n
+pub quantity_found : (xs : List Row) (n : List ℕ) → AreRegular xs → are_named_once xs ≡ true
+    → is_quantity_in xs n ≡ holds (λ r. gives r n) (row_part n) (find (is_named (row_part n)) xs)
+quantity_found xs n regular once = quantity_named xs n regular ∙ has_found (λ r. gives r n) (row_part n) xs once
 
-pub quantity_found : (xs : List Row) (n : List ℕ) → are_named_once xs ≡ true → is_quantity_in xs n ≡ holds (λ r. gives r n) n (find (is_named n) xs)
-quantity_found xs n once = quantity_named xs n ∙ has_found (λ r. gives r n) n xs once
-
-pub no_quantity : (xs : List Row) (n : List ℕ) → is_among xs n ≡ false → is_quantity_in xs n ≡ false
-no_quantity xs n h = quantity_named xs n ∙ has_none (λ r. gives r n) n xs h
+pub no_quantity : (xs : List Row) (n : List ℕ) → AreRegular xs → is_among xs (row_part n) ≡ false → is_quantity_in xs n ≡ false
+no_quantity xs n regular h = quantity_named xs n regular ∙ has_none (λ r. gives r n) (row_part n) xs h
 
 -- ---- the row added
 -- rows, and one after them
@@ -66,10 +92,11 @@ with_last xs row = xs ++ row ∷ []
 pub added_has : (sheet : List Row) (row : Row) (n : List ℕ) → is_among (with_last sheet row) n ≡ (is_among sheet n || bytes_eq n (name_of row))
 added_has sheet row n = list_any-append (is_named n) sheet (row ∷ []) ∙ ap (λ b. is_among sheet n || b) (or-false (bytes_eq n (name_of row)))
 
-added_known : (sheet : Sheet) (row : Row) → has_row sheet (name_of row) ≡ false → (n : List ℕ) → has_quantity (added sheet row) n ≡ is_known_with sheet row n
-added_known sheet row new n =
-    quantity_named (with_last sheet.rows row) n ∙ has_added (λ r. gives r n) n sheet.rows row new
-    ∙ ap (cond (is_named n row) (gives row n)) (sym (quantity_named sheet.rows n))
+added_known : (sheet : Sheet) (row : Row) → AreRegular sheet.rows → IsRegular row → has_row sheet (name_of row) ≡ false
+    → (n : List ℕ) → has_quantity (added sheet row) n ≡ is_known_with sheet row n
+added_known sheet row regular own new n =
+    quantity_named (with_last sheet.rows row) n (regular_added sheet.rows row regular own) ∙ has_added (λ r. gives r n) (row_part n) sheet.rows row new
+    ∙ ap (cond (is_named (row_part n) row) (gives row n)) (sym (quantity_named sheet.rows n regular))
 
 pub before_added : (sheet : List Row) (row : Row) → is_among sheet (name_of row) ≡ false → rows_before (name_of row) (with_last sheet row) ≡ sheet
 before_added [] row h = ap (λ b. cond b [] (row ∷ [])) (named_itself (name_of row))
@@ -77,17 +104,19 @@ before_added (r ∷ rs) row h =
     ap (λ b. cond b [] (r ∷ rows_before (name_of row) (with_last rs row))) (or_parts _ _ h).0
     ∙ ap (λ xs. r ∷ xs) (before_added rs row (or_parts (is_named (name_of row) r) _ h).1)
 
-stands_in : (sheet : Sheet) (at : ℕ) → are_named_once sheet.rows ≡ true → (n : List ℕ) → is_quantity_in (take at sheet.rows) n ≡ stands_before sheet at n
-stands_in sheet at once n =
-    let before = sym (before-any (is_named n) sheet.rows at) in
-    let there = sym (quantity_named sheet.rows n) in
-    quantity_named (take at sheet.rows) n ∙ has_before (λ r. gives r n) n sheet.rows at once ∙ (λ j. before j && there j)
+stands_in : (sheet : Sheet) (at : ℕ) → AreRegular sheet.rows → are_named_once sheet.rows ≡ true → (n : List ℕ)
+    → is_quantity_in (take at sheet.rows) n ≡ stands_before sheet at n
+stands_in sheet at regular once n =
+    let before = sym (before-any (is_named (row_part n)) sheet.rows at) in
+    let there = sym (quantity_named sheet.rows n regular) in
+    quantity_named (take at sheet.rows) n (regular_taken at sheet.rows regular) ∙ has_before (λ r. gives r n) (row_part n) sheet.rows at once
+    ∙ (λ j. before j && there j)
 
-added_stands : (sheet : Sheet) (row : Row) → are_named_once sheet.rows ≡ true → has_row sheet (name_of row) ≡ false → (n : List ℕ)
+added_stands : (sheet : Sheet) (row : Row) → AreRegular sheet.rows → are_named_once sheet.rows ≡ true → has_row sheet (name_of row) ≡ false → (n : List ℕ)
     → is_quantity_in (rows_before (name_of row) (with_last sheet.rows row)) n ≡ stands_before sheet (length sheet.rows) n
-added_stands sheet row once h n =
+added_stands sheet row regular once h n =
     ap (λ rows. is_quantity_in rows n) (before_added sheet.rows row h ∙ sym (take_all (length sheet.rows) sheet.rows (omega arith)))
-    ∙ stands_in sheet (length sheet.rows) once n
+    ∙ stands_in sheet (length sheet.rows) regular once n
 
 -- ---- the names of the row
 first_failing : (p q : List ℕ → Bool) → ((n : List ℕ) → p n ≡ q n) → (ns : List (List ℕ)) → find (λ n. not (p n)) ns ≡ find (λ n. not (q n)) ns
@@ -141,12 +170,12 @@ ok_uses edited row v known earlier correlatable apart =
     λ j. unless (a j) Unknown (unless (b j) NotEarlier (unless (c j) NotCorrelatable (unless (d j) AlreadyCorrelated v)))
 
 -- where there is room and the name is new, the names of the row decide
-pub add_by_names : (sheet : Sheet) (row : Row) (at : ℕ) → are_named_once sheet.rows ≡ true → length sheet.rows ≡ at
+pub add_by_names : (sheet : Sheet) (row : Row) (at : ℕ) → AreRegular sheet.rows → IsRegular row → are_named_once sheet.rows ≡ true → length sheet.rows ≡ at
     → nat_le row_limit (length sheet.rows) ≡ false → has_row sheet (name_of row) ≡ false
     → verdict_add sheet row ≡ unless_names_fail sheet row at (Ok (added sheet row))
-add_by_names sheet row at once e full new =
+add_by_names sheet row at regular own once e full new =
     (λ j. cond (full j) (Err RowsFull) (cond (new j) (Err (Duplicate (name_of row))) (unless_uses_fail (added sheet row) row (Ok (added sheet row)))))
-    ∙ names_by (added sheet row) sheet row (length sheet.rows) (Ok (added sheet row)) (added_known sheet row new) (added_stands sheet row once new)
+    ∙ names_by (added sheet row) sheet row (length sheet.rows) (Ok (added sheet row)) (added_known sheet row regular own new) (added_stands sheet row regular once new)
     (λ n. has_added is_correlatable n sheet.rows row new) (apart_added sheet.rows row)
     ∙ ap (λ k. unless_names_fail sheet row k (Ok (added sheet row))) e
 
@@ -160,11 +189,11 @@ pub set_has : (sheet : List Row) (row : Row) (n : List ℕ) → is_among (rows_w
 set_has [] row n = refl
 set_has (r ∷ rs) row n = set_has_by row r n rs (rows_with row rs) (is_named (name_of row) r) refl (set_has rs row n)
 
-pub set_known : (sheet : Sheet) (row : Row) → are_named_once sheet.rows ≡ true → has_row sheet (name_of row) ≡ true
+pub set_known : (sheet : Sheet) (row : Row) → AreRegular sheet.rows → IsRegular row → are_named_once sheet.rows ≡ true → has_row sheet (name_of row) ≡ true
     → (n : List ℕ) → has_quantity (set_row row sheet) n ≡ is_known_with sheet row n
-set_known sheet row once there n =
-    quantity_named (rows_with row sheet.rows) n ∙ has_set (λ r. gives r n) n sheet.rows row once there
-    ∙ ap (cond (is_named n row) (gives row n)) (sym (quantity_named sheet.rows n))
+set_known sheet row regular own once there n =
+    quantity_named (rows_with row sheet.rows) n (regular_set sheet.rows row regular own) ∙ has_set (λ r. gives r n) (row_part n) sheet.rows row once there
+    ∙ ap (cond (is_named (row_part n) row) (gives row n)) (sym (quantity_named sheet.rows n regular))
 
 pub set_correlatable : (sheet : Sheet) (row : Row) → are_named_once sheet.rows ≡ true → has_row sheet (name_of row) ≡ true
     → (n : List ℕ) → is_correlatable_in (rows_with row sheet.rows) n ≡ is_correlatable_with sheet row n
@@ -178,70 +207,42 @@ before_set (r ∷ rs) row (suc at) h =
     ap (λ b. rows_before (name_of row) (cond b (row ∷ rs) (r ∷ rows_with row rs))) h.0
     ∙ ap (λ b. cond b [] (r ∷ rows_before (name_of row) (rows_with row rs))) h.0 ∙ ap (λ xs. r ∷ xs) (before_set rs row at h.1)
 
-set_stands : (sheet : Sheet) (row : Row) (at : ℕ) → are_named_once sheet.rows ≡ true → IsFirstAt (is_named (name_of row)) sheet.rows at → (n : List ℕ)
+set_stands : (sheet : Sheet) (row : Row) (at : ℕ) → AreRegular sheet.rows → are_named_once sheet.rows ≡ true → IsFirstAt (is_named (name_of row)) sheet.rows at → (n : List ℕ)
     → is_quantity_in (rows_before (name_of row) (rows_with row sheet.rows)) n ≡ stands_before sheet at n
-set_stands sheet row at once h n = ap (λ rows. is_quantity_in rows n) (before_set sheet.rows row at h) ∙ stands_in sheet at once n
+set_stands sheet row at regular once h n = ap (λ rows. is_quantity_in rows n) (before_set sheet.rows row at h) ∙ stands_in sheet at regular once n
 
 pub there_at : (p : Row → Bool) (sheet : List Row) (at : ℕ) → position p sheet ≡ Some at → list_any p sheet ≡ true
 there_at p sheet at h = sym (position-any p sheet) ∙ ap is_some h
 
 -- where the row is there, its names decide, and what the other rows are left with
-pub set_by_names : (sheet : Sheet) (row : Row) (at : ℕ) → are_named_once sheet.rows ≡ true → place_of sheet (name_of row) ≡ Some at
+pub set_by_names : (sheet : Sheet) (row : Row) (at : ℕ) → AreRegular sheet.rows → IsRegular row → are_named_once sheet.rows ≡ true → place_of sheet (name_of row) ≡ Some at
     → verdict_set sheet row ≡ unless_names_fail sheet row at (unless_left (set_row row sheet) row)
-set_by_names sheet row at once place =
+set_by_names sheet row at regular own once place =
     let there = there_at (is_named (name_of row)) sheet.rows at place in
     ap (λ b. cond b (verdict_on_set (set_row row sheet) row) (Err (Unknown (name_of row)))) there
-    ∙ names_by (set_row row sheet) sheet row at (unless_left (set_row row sheet) row) (set_known sheet row once there)
-    (set_stands sheet row at once (first_at (is_named (name_of row)) sheet.rows at place)) (set_correlatable sheet row once there) (apart_set sheet.rows row)
+    ∙ names_by (set_row row sheet) sheet row at (unless_left (set_row row sheet) row) (set_known sheet row regular own once there)
+    (set_stands sheet row at regular once (first_at (is_named (name_of row)) sheet.rows at place)) (set_correlatable sheet row once there) (apart_set sheet.rows row)
 
 -- ---- the row removed
--- the first row that uses the name
-abbrev pub first_user : Sheet → List ℕ → Option (List ℕ)
-first_user sheet n = option_map name_of (find (λ other. list_any (bytes_eq n) (used_names other)) sheet.rows)
+-- the row that is found has the name
+pub found_named : (n : List ℕ) (xs : List Row) (row : Row) → find (is_named n) xs ≡ Some row → n ≡ name_of row
+found_named n [] row e = absurd (cc)
+found_named n (r ∷ rs) row e = by (is_named n r) refl e (found_named n rs row) where
+  by : (t : Bool) → is_named n r ≡ t → cond t (Some r) (find (is_named n) rs) ≡ Some row → (find (is_named n) rs ≡ Some row → n ≡ name_of row) → n ≡ name_of row
+  by true f g rest = same_name n (name_of r) f ∙ ap name_of (some_same g)
+  by false f g rest = rest g
 
--- ---- a row that knows its names in rows without n does not use n
-unused_by : (a : List Row) (n u : List ℕ) (t : Bool) → bytes_eq n u ≡ t → is_quantity_in a n ≡ false → is_quantity_in a u ≡ true → t ≡ false
-unused_by a n u false e h g = refl
-unused_by a n u true e h g = absurd (true≢false (sym g ∙ ap (is_quantity_in a) (sym (same_name n u e)) ∙ h))
-
-pub unused : (a : List Row) (n : List ℕ) (us : List (List ℕ)) → is_quantity_in a n ≡ false → list_all (is_quantity_in a) us ≡ true → list_any (bytes_eq n) us ≡ false
-unused a n [] h g = refl
-unused a n (u ∷ us) h g =
-    let first = unused_by a n u (bytes_eq n u) refl h (and_parts (is_quantity_in a u) (list_all (is_quantity_in a) us) g).0 in
-    let rest = unused a n us h (and_parts (is_quantity_in a u) (list_all (is_quantity_in a) us) g).1 in
-    λ j. first j || rest j
-
-pub all_unused : (a : List Row) (n : List ℕ) (rest : List Row) → is_quantity_in a n ≡ false → list_all (are_known a) rest ≡ true
-    → list_any (λ other. list_any (bytes_eq n) (used_names other)) rest ≡ false
-all_unused a n [] h g = refl
-all_unused a n (r ∷ rs) h g =
-    let first = unused a n (used_names r) h (and_parts (are_known a r) (list_all (are_known a) rs) g).0 in
-    let rest = all_unused a n rs h (and_parts (are_known a r) (list_all (are_known a) rs) g).1 in
-    λ j. first j || rest j
+pub found_any : {X : Type 0} (p : X → Bool) (xs : List X) → is_some (find p xs) ≡ list_any p xs
+found_any p [] = refl
+found_any p (x ∷ xs) = by (p x) ∙ ap (λ b. p x || b) (found_any p xs)
+  where
+    by : (t : Bool) → is_some (cond t (Some x) (find p xs)) ≡ (t || is_some (find p xs))
+    by true = refl
+    by false = refl
 
 pub missing_find : {X : Type 0} (p : X → Bool) (xs : List X) → list_any p xs ≡ false → find p xs ≡ None
 missing_find p [] h = refl
 missing_find p (x ∷ xs) h = ap (λ b. cond b (Some x) (find p xs)) (or_parts _ _ h).0 ∙ missing_find p xs (or_parts (p x) _ h).1
-
-none_true : (rows : List Row) → list_any (λ other. false) rows ≡ false
-none_true [] = refl
-none_true (r ∷ rs) = none_true rs
-
-users_of_name : (sheet : List Row) (n name : List ℕ) → n ≡ name
-    → find (λ other. list_any (bytes_eq name) (used_names other) || false) sheet ≡ find (λ other. list_any (bytes_eq n) (used_names other)) sheet
-users_of_name sheet n name e =
-    find_agree (λ other. list_any (bytes_eq name) (used_names other) || false) (λ other. list_any (bytes_eq n) (used_names other))
-    (λ other. or-false (list_any (bytes_eq name) (used_names other)) ∙ ap (λ m. list_any (bytes_eq m) (used_names other)) (sym e)) sheet
-
--- the users of a row use its name, or it is no quantity and has none
-users_by : (sheet : List Row) (n : List ℕ) (row : Row) → n ≡ name_of row → (is_quantity_in sheet n ≡ gives row n) → list_all (are_known sheet) sheet ≡ true
-    → find (is_user_of row) sheet ≡ find (λ other. list_any (bytes_eq n) (used_names other)) sheet
-users_by sheet n (Given name estimate shape dof) e given known = users_of_name sheet n name e
-users_by sheet n (Readings name table) e given known = users_of_name sheet n name e
-users_by sheet n (Correlation name first second coefficient) e given known =
-    missing_find (is_user_of (Correlation name first second coefficient)) sheet (none_true sheet)
-    ∙ sym (missing_find (λ other. list_any (bytes_eq n) (used_names other)) sheet (all_unused sheet n sheet given known))
-users_by sheet n (Formula name formula) e given known = users_of_name sheet n name e
 
 pub found_at : (sheet : List Row) (n : List ℕ) (at : ℕ) → IsFirstAt (is_named n) sheet at → (row : Row) × (find (is_named n) sheet ≡ Some row) × (n ≡ name_of row)
 found_at [] n at h = absurd h
@@ -250,13 +251,33 @@ found_at (r ∷ rs) n (suc at) h =
     let found = found_at rs n at h.1 in
     (found.0, ap (λ b. cond b (Some r) (find (is_named n) rs)) h.0 ∙ found.1, found.2)
 
-pub remove_by_users : (sheet : Sheet) (n : List ℕ) (at : ℕ) → are_named_once sheet.rows ≡ true → list_all (are_known sheet.rows) sheet.rows ≡ true → place_of sheet n ≡ Some at
-    → verdict_remove sheet n ≡ unless (first_user sheet n) InUse (Ok (removed n sheet))
-remove_by_users sheet n at once known place =
-    let found = found_at sheet.rows n at (first_at (is_named n) sheet.rows at place) in
-    let given = quantity_found sheet.rows n once ∙ ap (holds (λ r. gives r n) n) found.1 in
-    ap (verdict_on_removal sheet n) found.1
-    ∙ ap (λ user. unless (option_map name_of user) InUse (Ok (removed n sheet))) (users_by sheet.rows n found.0 found.2 given known)
+-- its users decide
+pub remove_by_users : (sheet : Sheet) (n : List ℕ) (row : Row) → find (is_named n) sheet.rows ≡ Some row
+    → verdict_remove sheet n ≡ unless (option_map name_of (find (is_user_of row) sheet.rows)) InUse (Ok (removed n sheet))
+remove_by_users sheet n row e = ap (verdict_on_removal sheet n) e
+
+-- a plain name, as the code finds it
+pub plain_place : (r : Option (List ℕ)) (text n : List ℕ) → r ≡ (if is_plain_name text then Some text else None) → r ≡ Some n → n ≡ text
+plain_place r text n e h = by (is_plain_name text) (sym e ∙ h) where
+  by : (t : Bool) → (if t then Some text else None) ≡ Some n → n ≡ text
+  by true f = sym (some_same f)
+  by false f = absurd (cc)
+
+pub no_plain_place : (sheet : Sheet) (text : List ℕ) (r : Option (List ℕ)) → AreRegular sheet.rows → r ≡ (if is_plain_name text then Some text else None) → r ≡ None
+    → None ≡ place_of sheet text
+no_plain_place sheet text r regular e h = by (is_plain_name text) refl (sym e ∙ h) where
+  none_there : (o : Option ℕ) → is_some o ≡ false → None ≡ o
+  none_there None g = refl
+  none_there (Some k) g = absurd (cc)
+
+  by : (t : Bool) → is_plain_name text ≡ t → (if t then Some text else None) ≡ None → None ≡ place_of sheet text
+  by true f g = absurd (cc)
+  by false f g = none_there (place_of sheet text) (position-any (is_named text) sheet.rows ∙ no_row sheet.rows text regular f)
+
+pub never_nowhere : (sheet : Sheet) (n : List ℕ) (at : ℕ) → place_of sheet n ≡ Some at → None ≡ find (is_named n) sheet.rows → ⊥
+never_nowhere sheet n at h e =
+    let there : list_any (is_named n) sheet.rows ≡ true = sym (position-any (is_named n) sheet.rows) ∙ ap is_some h in
+    true≢false (sym there ∙ sym (found_any (is_named n) sheet.rows) ∙ sym (ap is_some e))
 
 pub find_nowhere : (p : Row → Bool) (xs : List Row) → position p xs ≡ None → find p xs ≡ None
 find_nowhere p xs h = missing_find p xs (sym (position-any p xs) ∙ ap is_some h)

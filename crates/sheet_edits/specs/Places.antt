@@ -1,9 +1,9 @@
 -- What the edits of the code answer, and how it finds names by their places.
-use Rattle.std.specs.Prelude.{◌≡◌, ◌≢◌, ℕ, Bool, false, ◌||◌, ◌&&◌, not, if◌then◌else◌, nat_lt, List, find, position, Option, None, Some, Result, Ok, Err, bytes_eq}
+use Rattle.std.specs.Prelude.{◌≡◌, ◌≢◌, ℕ, Bool, true, false, ◌||◌, ◌&&◌, not, if◌then◌else◌, nat_lt, List, find, position, Option, None, Some, Result, Ok, Err}
 use Rattle.std.specs.List.{list_any}
 use Rattle.std.specs.Option.{option_or}
 use Rattle.line_text.specs.Memory.{Gives}
-use Rattle.sheet_rows.specs.Rows.{Row, Sheet, row_of, name_of, used_names, names_used, gives, correlated_names, correlates, is_correlatable}
+use Rattle.sheet_rows.specs.Rows.{Row, Sheet, Given, Readings, Joint, Correlation, Formula, row_of, name_of, row_part, used_names, names_used, gives, correlated_names, correlates, is_correlatable}
 use Rattle.sheet_edits.specs.Sheets.{Verdict, is_named, has_quantity, is_correlatable_in, repeated_name, first_correlated, unless}
 use Rattle.sheet_rows.specs.declared.row.Row.{Row as CodeRow}
 use Rattle.sheet_rows.specs.declared.edit_fault.EditFault.{EditFault}
@@ -37,12 +37,12 @@ is_before at (Some place) = nat_lt place at
 
 -- the name is a quantity whose row stands before the place
 abbrev pub stands_before : Sheet → ℕ → List ℕ → Bool
-stands_before sheet at n = is_before at (place_of sheet n) && has_quantity sheet n
+stands_before sheet at n = is_before at (place_of sheet (row_part n)) && has_quantity sheet n
 
 -- ---- the row put last, or in the place of that of its name
 -- the name is then a quantity
 abbrev pub is_known_with : Sheet → Row → List ℕ → Bool
-is_known_with sheet row n = if is_named n row then gives row n else has_quantity sheet n
+is_known_with sheet row n = if is_named (row_part n) row then gives row n else has_quantity sheet n
 
 -- the name is then that of an input that may be correlated
 abbrev pub is_correlatable_with : Sheet → Row → List ℕ → Bool
@@ -53,18 +53,34 @@ abbrev pub first_not_correlatable_with : Sheet → Row → Option (List ℕ)
 first_not_correlatable_with sheet row =
     option_or (find (λ n. not (is_correlatable_with sheet row n)) (correlated_names row)) (repeated_name row)
 
--- the other row then uses a name that is no quantity, or correlates what may not be correlated
-abbrev pub is_left_by : Row → Row → Bool
-is_left_by row other =
-    not (is_named (name_of row) other)
-    && ((not (gives row (name_of row)) && list_any (bytes_eq (name_of row)) (used_names other))
-    || (not (is_correlatable row) && correlates other (name_of row)))
+-- ---- a row in the place of an old one, or of an old one nothing
+abbrev pub is_given : Option Row → List ℕ → Bool
+is_given None n = false
+is_given (Some row) n = gives row n
 
--- the name of the row is a quantity, and that of an input that may be correlated, where it was one
-abbrev pub loses_nothing : Sheet → Row → Bool
-loses_nothing sheet row =
-    (gives row (name_of row) || not (has_quantity sheet (name_of row)))
-    && (is_correlatable row || not (is_correlatable_in sheet.rows (name_of row)))
+-- the name is a quantity of the old row, and none of what stands in its place
+abbrev pub loses : Row → Option Row → List ℕ → Bool
+loses old new n = gives old n && not (is_given new n)
+
+-- the other row then uses a name that is no quantity, or correlates what may not be correlated
+abbrev pub is_left_by : Row → Row → Row → Bool
+is_left_by old row other =
+    not (is_named (name_of row) other)
+    && (list_any (loses old (Some row)) (used_names other) || (not (is_correlatable row) && correlates other (name_of row)))
+
+-- the row has quantities under other names than its own
+abbrev pub has_columns : Row → Bool
+has_columns (Given name estimate shape dof) = false
+has_columns (Readings name table) = false
+has_columns (Joint name columns table) = true
+has_columns (Correlation name first second coefficient) = false
+has_columns (Formula name formula) = false
+
+-- the old row has no columns, and its name is a quantity, and that of an input that may be correlated, where it was one
+abbrev pub loses_nothing : Row → Row → Bool
+loses_nothing old row =
+    not (has_columns old)
+    && ((gives row (name_of old) || not (gives old (name_of old))) && (is_correlatable row || not (is_correlatable old)))
 
 -- the refusals by the names of the row, which is put at the place
 abbrev pub unless_names_fail : Sheet → Row → ℕ → Verdict → Verdict

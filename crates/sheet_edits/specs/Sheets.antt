@@ -3,7 +3,7 @@
 use Rattle.std.specs.Prelude.{◌≡◌, ◌≤◌, ◌&&◌, ℕ, Bool, true, not, nat_le, if◌then◌else◌, List, [], ◌∷◌, ◌++◌, length, find, Option, None, Some, is_some, Result, Ok, Err, bytes_eq}
 use Rattle.std.specs.List.{list_any, list_all}
 use Rattle.std.specs.Option.{option_map, option_or}
-use Rattle.sheet_rows.specs.Rows.{Row, Sheet, Given, Readings, Correlation, Formula, name_of, used_names, quantities_of, correlated_names, correlates, is_correlatable}
+use Rattle.sheet_rows.specs.Rows.{Row, Sheet, Given, Readings, Joint, Correlation, Formula, name_of, used_names, quantities_of, gives, correlated_names, correlates, is_correlatable}
 use Rattle.sheet_rows.specs.declared.edit_fault.EditFault.{EditFault}
 use Rattle.sheet_rows.specs.declared.edit_fault.EditFault.TheVariants.{RowsFull, Duplicate, Unknown, NotEarlier, NotCorrelatable, AlreadyCorrelated, InUse}
 
@@ -40,6 +40,7 @@ is_correlatable_in rows n = list_any (λ row. is_named n row && is_correlatable 
 abbrev pub repeated_name : Row → Option (List ℕ)
 repeated_name (Given name estimate shape dof) = None
 repeated_name (Readings name table) = None
+repeated_name (Joint name columns table) = None
 repeated_name (Correlation name first second coefficient) = if bytes_eq first second then Some second else None
 repeated_name (Formula name formula) = None
 
@@ -170,7 +171,7 @@ verdict_set sheet row =
 
 -- the other row uses a quantity of the row
 abbrev pub is_user_of : Row → Row → Bool
-is_user_of row other = list_any (λ n. list_any (bytes_eq n) (used_names other)) (quantities_of row)
+is_user_of row other = list_any (gives row) (used_names other)
 
 abbrev pub verdict_on_removal : Sheet → List ℕ → Option Row → Verdict
 verdict_on_removal sheet n None = Err (Unknown n)

@@ -1,10 +1,10 @@
 -- Small sheets, by which the definitions can be read. A name is a letter, by its number in ASCII: A is 65.
-use Rattle.std.specs.Prelude.{ℕ, List, [], ◌∷◌, ◌++◌, pos}
+use Rattle.std.specs.Prelude.{ℕ, List, [], ◌∷◌, ◌++◌, map, pos}
 use Rattle.decimal18.specs.Bound.{Bound, scaled}
 use Rattle.formula_ast.specs.Trees.{Variable}
 use Rattle.type_b.specs.declared.shape.Shape.TheVariants.{Std, Rect}
 use Rattle.type_b.specs.declared.shape.Dof.TheVariants.{Inf, Whole}
-use Rattle.sheet_rows.specs.Rows.{Row, Sheet, Given, Readings, Correlation, Formula}
+use Rattle.sheet_rows.specs.Rows.{Row, Sheet, Given, Readings, Joint, Correlation, Formula, column_name}
 
 abbrev pub named : ℕ → List ℕ
 named letter = letter ∷ []
@@ -26,6 +26,14 @@ std_of_five letter = Given (named letter) (whole 10) (Std (whole 1)) (Whole 5)
 -- an input with the readings 1 and 2
 abbrev pub readings : ℕ → Row
 readings letter = Readings (named letter) ((whole 1 ∷ []) ∷ (whole 2 ∷ []) ∷ [])
+
+-- inputs with the joint readings 1 and 2 each, in these columns
+abbrev pub table : ℕ → List ℕ → Row
+table letter columns = Joint (named letter) (map named columns) (map (λ c. whole 1) columns ∷ map (λ c. whole 2) columns ∷ [])
+
+-- the quantity that is a column of a table
+abbrev pub same_as_column : ℕ → ℕ → ℕ → Row
+same_as_column letter other column = Formula (named letter) (Variable (column_name (named other) (named column)))
 
 -- the correlation of two inputs, in tenths
 abbrev pub correlation : ℕ → ℕ → ℕ → ℕ → Row

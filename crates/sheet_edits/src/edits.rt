@@ -1,5 +1,5 @@
-ghost use Rattle.std.specs.Prelude.{◌≡◌, ℕ, List, true, false, find, not, Some, None, Ok, Err, OnErr, OnOk, IfOk, IfErr, slice_get};
-ghost use Rattle.sheet_rows.specs.Rows.{row_of, name_of, names_used};
+ghost use Rattle.std.specs.Prelude.{◌≡◌, ℕ, List, false, find, not, Some, None, Ok, Err, OnErr, OnOk, IfOk, IfErr, slice_get};
+ghost use Rattle.sheet_rows.specs.Rows.{row_of, name_of, row_part, names_used};
 ghost use Rattle.sheet_rows.specs.Regular.{IsRegular};
 ghost use Rattle.sheet_edits.specs.Standing.{IsStanding};
 ghost use Rattle.sheet_edits.specs.Sheets.{Verdict, is_named, has_row, added, set_row, removed, unless, unless_left, verdict_add, verdict_set, verdict_remove};
@@ -9,19 +9,38 @@ ghost use Rattle.sheet_rows.specs.declared.edit_fault.EditFault.TheVariants.{Unk
 
 use crate::sheet::Sheet;
 use crate::users::{first_left_by, first_user};
-use formula_ast::Name;
+use formula_ast::{Name, cut};
 use sheet_rows::{EditFault, Row};
 use std::rc::Rc;
 
 /// The most rows of a sheet.
 const ROW_LIMIT: usize = 4096;
 
+// Whether the name would be that of a quantity of the row.
+fn is_of_row(name: &Name, row: &Row) -> bool
+    ensures { result ≡ is_named (row_part name.now) (row_of row.now) }
+{
+    let (part, _) = cut(name.as_bytes(), b'.');
+    part == row.name().as_bytes()
+}
+
+// Whether the old row has no columns, and its name is still a quantity, and that of an input that may be correlated,
+// where it was one.
+fn loses_nothing(old: &Row, row: &Row) -> bool
+    ensures { result ≡ loses_nothing (row_of old.now) (row_of row.now) }
+{
+    let name = old.name();
+    !matches!(old, Row::Joint { .. })
+        && (row.gives(name) || !old.gives(name))
+        && (row.is_correlatable() || !old.is_correlatable())
+}
+
 impl Sheet {
     // Whether the name is that of a quantity, where the row is put in.
     fn is_known_with(&self, row: &Row, name: &Name) -> bool
         ensures { result ≡ is_known_with self.now (row_of row.now) name.now }
     {
-        if name == row.name() {
+        if is_of_row(name, row) {
             return row.gives(name);
         }
         self.has_quantity(name)
@@ -31,7 +50,7 @@ impl Sheet {
     fn stands_before(&self, at: usize, name: &Name) -> bool
         ensures { result ≡ stands_before self.now at name.now }
     {
-        match self.place_of(name) {
+        match self.place_of_quantity(name) {
             Some(place) => place < at && self.has_quantity(name),
             None => false,
         }
@@ -111,29 +130,24 @@ impl Sheet {
         // The contract of `rows` says that the sheet is well formed.
         let _rows = self.rows();
         self.check_names(row, at)?;
-        self.check_left(row)
-    }
-
-    // Whether the name of the row is a quantity, and that of an input that may be correlated, where it was one.
-    fn loses_nothing(&self, row: &Row) -> bool
-        ensures { result ≡ loses_nothing self.now (row_of row.now) }
-    {
-        let name = row.name();
-        (row.gives(name) || !self.has_quantity(name))
-            && (row.is_correlatable() || !self.has_correlatable(name))
+        match self.row_named(row.name()) {
+            Some(old) => self.check_left(old, row),
+            None => Ok(()),
+        }
     }
 
     // Whether no other row is left without what it uses or correlates, where the row is put in the place of that of
     // its name. The rows are looked through only where something is lost.
-    fn check_left(&self, row: &Row) -> Result<(), EditFault>
-        requires { has_row self.now (name_of (row_of row.now)) ≡ true }
+    fn check_left(&self, old: &Row, row: &Row) -> Result<(), EditFault>
+        requires regular { IsRegular (row_of row.now) }
+        requires old { find (is_named (name_of (row_of row.now))) self.now.rows ≡ Some (row_of old.now) }
         ensures { IsVerdict result (set_row (row_of row.now) self.now) (unless_left (set_row (row_of row.now) self.now) (row_of row.now)) }
     {
         let rows = self.rows();
-        if self.loses_nothing(row) {
+        if loses_nothing(old, row) {
             return Ok(());
         }
-        match first_left_by(rows, row) {
+        match first_left_by(rows, old, row) {
             Some(user) => Err(EditFault::InUse(user)),
             None => Ok(()),
         }
@@ -145,7 +159,11 @@ impl Sheet {
         ensures verdict { verdict_of result (removed name.now self.now) ≡ verdict_remove self.now name.now }
         ensures standing { OnOk result (IsStanding (removed name.now self.now)) }
     {
-        match first_user(self.rows(), name) {
+        let rows = self.rows();
+        let Some(row) = self.row_named(name) else {
+            return Ok(());
+        };
+        match first_user(rows, row) {
             Some(user) => Err(EditFault::InUse(user)),
             None => Ok(()),
         }

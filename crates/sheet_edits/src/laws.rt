@@ -15,7 +15,7 @@ pub fn adding_is_accepted_where_well_formed()
 /// A row is set exactly where a row has its name and the sheet with it at that row's place is well formed,
 /// and that is then the sheet.
 pub fn setting_is_accepted_where_well_formed()
-    ensures accepted { (sheet : Sheet) (row : Row) → IsWellFormed sheet → (edited : Sheet) → verdict_set sheet row ≡ Ok edited
+    ensures accepted { (sheet : Sheet) (row : Row) → IsStanding sheet → IsRegular row → (edited : Sheet) → verdict_set sheet row ≡ Ok edited
         → IsAccepted edited (set_row row sheet) }
     ensures there { (sheet : Sheet) (row : Row) (edited : Sheet) → verdict_set sheet row ≡ Ok edited → has_row sheet (name_of row) ≡ true }
     ensures well_formed { (sheet : Sheet) (row : Row) → IsWellFormed sheet → has_row sheet (name_of row) ≡ true → IsWellFormed (set_row row sheet)
@@ -28,7 +28,7 @@ pub fn removing_is_accepted_where_well_formed()
     ensures accepted { (sheet : Sheet) (n : List ℕ) → IsWellFormed sheet → (edited : Sheet) → verdict_remove sheet n ≡ Ok edited
         → IsAccepted edited (removed n sheet) }
     ensures there { (sheet : Sheet) (n : List ℕ) (edited : Sheet) → verdict_remove sheet n ≡ Ok edited → has_row sheet n ≡ true }
-    ensures well_formed { (sheet : Sheet) (n : List ℕ) → IsWellFormed sheet → has_row sheet n ≡ true → IsWellFormed (removed n sheet)
+    ensures well_formed { (sheet : Sheet) (n : List ℕ) → IsStanding sheet → has_row sheet n ≡ true → IsWellFormed (removed n sheet)
         → verdict_remove sheet n ≡ Ok (removed n sheet) }
 {}
 

@@ -1,11 +1,11 @@
 ghost use Rattle.std.specs.Prelude.{◌≡◌, ◌<◌, map, length, find, None, Some, remove, slice_get, IfOk, OnOk, OnErr};
 ghost use Rattle.std.specs.Option.{option_map};
-ghost use Rattle.sheet_rows.specs.Rows.{empty_sheet, row_of};
+ghost use Rattle.sheet_rows.specs.Rows.{empty_sheet, row_of, row_part};
 ghost use Rattle.sheet_edits.specs.Standing.{IsStanding};
 ghost use Rattle.sheet_edits.specs.Sheets.{is_named, has_quantity, is_correlatable_in, added, set_row};
 ghost use Rattle.sheet_edits.specs.Places.{place_of, code_name};
 
-use formula_ast::Name;
+use formula_ast::{Name, cut};
 use indexmap::IndexMap;
 use line_text::OutOfMemory;
 use sheet_rows::Row;
@@ -69,7 +69,7 @@ impl Sheet {
     pub fn has_quantity(&self, name: &Name) -> bool
         ensures { result ≡ has_quantity self.now name.now }
     {
-        match self.row_named(name) {
+        match self.row_of_quantity(name) {
             Some(row) => row.gives(name),
             None => false,
         }
@@ -85,8 +85,37 @@ impl Sheet {
         }
     }
 
+    // The place of the row of which the name would be a quantity.
+    pub(crate) fn place_of_quantity(&self, name: &Name) -> Option<usize>
+        ensures { result ≡ place_of self.now (row_part name.now) }
+    {
+        // The contract of `rows` says that the names of rows are plain ones.
+        let _rows = self.rows();
+        let (table, column) = cut(name.as_bytes(), b'.');
+        if column.is_none() {
+            return self.place_of(name);
+        }
+        match Name::plain(table) {
+            Some(table) => self.place_of(&table),
+            None => None,
+        }
+    }
+
+    // The row of which the name would be a quantity.
+    fn row_of_quantity(&self, name: &Name) -> Option<&Rc<Row>>
+        ensures row { option_map (λ row. row_of row.now.value) result ≡ find (is_named (row_part name.now)) self.now.rows }
+        ensures standing { IsStanding self.now }
+    {
+        // The contract of `rows` says that the sheet is well formed.
+        let _rows = self.rows();
+        match self.place_of_quantity(name) {
+            Some(at) => self.row_at(at),
+            None => None,
+        }
+    }
+
     // The row of this name, and that the sheet is well formed: it is the only one.
-    fn row_named(&self, name: &Name) -> Option<&Rc<Row>>
+    pub(crate) fn row_named(&self, name: &Name) -> Option<&Rc<Row>>
         ensures row { option_map (λ row. row_of row.now.value) result ≡ find (is_named name.now) self.now.rows }
         ensures standing { IsStanding self.now }
     {

@@ -1,7 +1,7 @@
 ghost use Rattle.std.specs.Prelude.{◌≡◌, [], ◌∷◌, ◌++◌, Ok, Err};
 ghost use Rattle.sheet_rows.specs.declared.edit_fault.EditFault.TheVariants.{Duplicate, Unknown, NotEarlier, NotCorrelatable, AlreadyCorrelated, InUse};
 ghost use Rattle.sheet_edits.specs.Sheets.{verdict_add, verdict_set, verdict_remove};
-ghost use Rattle.sheet_edits.specs.WorkedSheets.{named, std, rect, std_of_five, readings, correlation, same_as, sheet, inputs, correlated, more_inputs};
+ghost use Rattle.sheet_edits.specs.WorkedSheets.{named, std, rect, std_of_five, readings, table, same_as_column, correlation, same_as, sheet, inputs, correlated, more_inputs};
 
 /// What comes of adding rows to small sheets: A is an input with half a width, B to E are inputs with a standard
 /// deviation, and P is the correlation of B and C.
@@ -20,6 +20,10 @@ pub fn worked_additions()
     ensures no_quantity { verdict_add (sheet correlated) (same_as 70 80) ≡ Err (Unknown (named 80)) }
     ensures quantity_of_itself { verdict_add (sheet inputs) (same_as 70 70) ≡ Err (NotEarlier (named 70)) }
     ensures mean { verdict_add (sheet (readings 77 ∷ [])) (same_as 70 77) ≡ Ok (sheet (readings 77 ∷ same_as 70 77 ∷ [])) }
+    ensures column { verdict_add (sheet (table 84 (65 ∷ 66 ∷ []) ∷ [])) (same_as_column 70 84 66) ≡ Ok (sheet (table 84 (65 ∷ 66 ∷ []) ∷ same_as_column 70 84 66 ∷ [])) }
+    ensures other_column { verdict_add (sheet (table 84 (65 ∷ 66 ∷ []) ∷ std 67 ∷ [])) (same_as_column 70 84 67) ≡ Err (Unknown (84 ∷ 46 ∷ 67 ∷ [])) }
+    ensures table { verdict_add (sheet (table 84 (65 ∷ 66 ∷ []) ∷ [])) (same_as 70 84) ≡ Err (Unknown (named 84)) }
+    ensures of_columns { verdict_add (sheet (table 84 (65 ∷ 66 ∷ []) ∷ std 66 ∷ [])) (correlation 80 84 66 5) ≡ Err (Unknown (named 84)) }
     ensures of_readings { verdict_add (sheet (readings 77 ∷ std 66 ∷ [])) (correlation 80 77 66 5) ≡ Err (NotCorrelatable (named 77)) }
     ensures of_five { verdict_add (sheet (std_of_five 66 ∷ std 67 ∷ [])) (correlation 80 66 67 5) ≡ Err (NotCorrelatable (named 66)) }
 {}
@@ -37,6 +41,11 @@ pub fn worked_settings()
     ensures later { verdict_set (sheet more_inputs) (correlation 80 66 68 5) ≡ Err (NotEarlier (named 68)) }
     ensures in_another { verdict_set (sheet (more_inputs ++ correlation 81 68 69 5 ∷ [])) (correlation 81 67 68 5) ≡ Err (AlreadyCorrelated (named 67)) }
     ensures no_quantity_now { verdict_set (sheet (inputs ++ std 68 ∷ same_as 70 68 ∷ [])) (correlation 68 66 67 5) ≡ Err (InUse (named 70)) }
+    ensures column { verdict_set (sheet (table 84 (65 ∷ 66 ∷ []) ∷ same_as_column 70 84 66 ∷ [])) (table 84 (65 ∷ [])) ≡ Err (InUse (named 70)) }
+    ensures columns_moved { verdict_set (sheet (table 84 (65 ∷ 66 ∷ []) ∷ same_as_column 70 84 66 ∷ [])) (table 84 (66 ∷ 65 ∷ 67 ∷ []))
+        ≡ Ok (sheet (table 84 (66 ∷ 65 ∷ 67 ∷ []) ∷ same_as_column 70 84 66 ∷ [])) }
+    ensures column_later { verdict_set (sheet (same_as_column 70 84 66 ∷ [])) (same_as_column 70 84 66) ≡ Err (Unknown (84 ∷ 46 ∷ 66 ∷ [])) }
+    ensures input_for_columns { verdict_set (sheet (table 84 (65 ∷ 66 ∷ []) ∷ same_as_column 70 84 66 ∷ [])) (std 84) ≡ Err (InUse (named 70)) }
     ensures unused { verdict_set (sheet (inputs ++ std 68 ∷ [])) (correlation 68 66 67 5) ≡ Ok (sheet (inputs ++ correlation 68 66 67 5 ∷ [])) }
     ensures itself { verdict_set (sheet (inputs ++ std 68 ∷ [])) (correlation 68 66 68 5) ≡ Err (Unknown (named 68)) }
 {}
@@ -46,5 +55,7 @@ pub fn worked_removals()
     ensures correlated_input { verdict_remove (sheet correlated) (named 66) ≡ Err (InUse (named 80)) }
     ensures correlation { verdict_remove (sheet correlated) (named 80) ≡ Ok (sheet inputs) }
     ensures other_input { verdict_remove (sheet correlated) (named 65) ≡ Ok (sheet (std 66 ∷ std 67 ∷ correlation 80 66 67 5 ∷ [])) }
+    ensures column { verdict_remove (sheet (table 84 (65 ∷ 66 ∷ []) ∷ same_as_column 70 84 66 ∷ [])) (named 84) ≡ Err (InUse (named 70)) }
+    ensures table { verdict_remove (sheet (table 84 (65 ∷ 66 ∷ []) ∷ same_as 70 65 ∷ [])) (named 84) ≡ Ok (sheet (same_as 70 65 ∷ [])) }
     ensures no_row { verdict_remove (sheet correlated) (named 90) ≡ Err (Unknown (named 90)) }
 {}

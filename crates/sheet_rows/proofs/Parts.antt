@@ -1,5 +1,5 @@
 -- The name of the row of a quantity: a plain name has no point.
-use Rattle.std.proofs.Common.{◌≡◌, ℕ, ◌+◌, ◌≤◌, ◌++◌, length, take, drop, slice_set, length-append, arith, ◌==◌, ◌&&◌, Bool, true, false, List, [], ◌∷◌, get_or, refl, sym, ap, ◌∙◌}
+use Rattle.std.proofs.Common.{◌≡◌, ℕ, ◌+◌, ◌≤◌, ◌++◌, length, take, drop, slice_set, length-append, arith, ◌==◌, Bool, true, false, List, [], ◌∷◌, get_or, refl, sym, ap, ◌∙◌}
 use Rattle.std.specs.Prelude.{Option, Some, None, if◌then◌else◌}
 use Rattle.std.specs.List.{slice_split, list_all, All, join_with_byte}
 use Rattle.std.proofs.lemmas.Bool.{and_parts, and_from}
@@ -49,6 +49,9 @@ column_parts t c h = slice_split_at (λ byte. byte == 46) t 46 c (free t h) refl
 
 pub row_part-column : (t c : List ℕ) → is_plain_name t ≡ true → row_part (column_name t c) ≡ t
 row_part-column t c h = ap (λ ps. get_or ps 0 []) (column_parts t c h)
+
+pub row_part-first : (n part : List ℕ) (rest : List (List ℕ)) → slice_split (λ byte. byte == 46) n ≡ part ∷ rest → row_part n ≡ part
+row_part-first n part rest e = ap (λ ps. get_or ps 0 []) e
 
 -- where a name has no point, its row has that name
 pub row_part-whole : (n part : List ℕ) → slice_split (λ byte. byte == 46) n ≡ part ∷ [] → part ≡ n

@@ -8,4 +8,4 @@ pub returns-clause-there : goal.returns-clause-there
 returns-clause-there c = remove_there
 
 pub returns-clause-well_formed : goal.returns-clause-well_formed
-returns-clause-well_formed c = remove_complete
+returns-clause-well_formed c = λ sheet n h. remove_complete sheet n h.well_formed h.regular

@@ -1,4 +1,4 @@
-use Rattle.std.proofs.Common.{◌≡◌, true, false, bytes_eq, length, take, ◌∙◌, sym, ap, ap₂, arith, refl}
+use Rattle.std.proofs.Common.{bytes_eq, ◌∙◌, ap, ap₂, refl}
 use Rattle.sheet_rows.specs.Rows.{column_name}
 use Rattle.sheet_rows.proofs.Columns.{other_column, too_short, other_table, no_point, by_column, is_other, is_same, other_byte}
 use Rattle.sheet_rows.proofs.row.is_of_column.Goals as goal

@@ -25,7 +25,7 @@ returns-clause-verdict c =
     not_full sheet (length c.rows.result.now) (sym (length-map c.rows.result.now (λ r. row_of r.value)) ∙ ap length c.rows.ensures.rows) c.if-rows-ge-ROW_LIMIT.false in
     let new : is_some (place_of sheet (name_of row)) ≡ false =
     ap (λ n. is_some (place_of sheet n)) (sym c.name.ensures) ∙ sym (ap is_some c.place_of.ensures) ∙ sym c.is_some.ensures ∙ c.if-is_some.false in
-    rw (add_by_names sheet row c.len.result c.rows.ensures.standing.well_formed.once (sym c.len.ensures) full (new_name sheet (name_of row) new)) (checked_verdict c.check_names.result (added sheet row) _ (c.check_names.ensures (Ok (added sheet row))))
+    rw (add_by_names sheet row c.len.result c.rows.ensures.standing.regular c.requires c.rows.ensures.standing.well_formed.once (sym c.len.ensures) full (new_name sheet (name_of row) new)) (checked_verdict c.check_names.result (added sheet row) _ (c.check_names.ensures (Ok (added sheet row))))
 
 pub returns-then-is_some-clause-full : goal.returns-then-is_some-clause-full
 returns-then-is_some-clause-full c =
@@ -47,7 +47,7 @@ returns-clause-full c =
     let new : is_some (place_of sheet (name_of row)) ≡ false =
     ap (λ n. is_some (place_of sheet n)) (sym c.name.ensures) ∙ sym (ap is_some c.place_of.ensures) ∙ sym c.is_some.ensures ∙ c.if-is_some.false in
     λ h. absurd (names_not_full _ _ _ _ (added sheet row)
-    (sym (add_by_names sheet row c.len.result c.rows.ensures.standing.well_formed.once (sym c.len.ensures) full (new_name sheet (name_of row) new)) ∙ h))
+    (sym (add_by_names sheet row c.len.result c.rows.ensures.standing.regular c.requires c.rows.ensures.standing.well_formed.once (sym c.len.ensures) full (new_name sheet (name_of row) new)) ∙ h))
 
 pub returns-clause-duplicate : goal.returns-clause-duplicate
 returns-clause-duplicate c =
@@ -58,7 +58,7 @@ returns-clause-duplicate c =
     let new : is_some (place_of sheet (name_of row)) ≡ false =
     ap (λ n. is_some (place_of sheet n)) (sym c.name.ensures) ∙ sym (ap is_some c.place_of.ensures) ∙ sym c.is_some.ensures ∙ c.if-is_some.false in
     λ n h. absurd (names_no_duplicate _ _ _ _ (added sheet row) n
-    (sym (add_by_names sheet row c.len.result c.rows.ensures.standing.well_formed.once (sym c.len.ensures) full (new_name sheet (name_of row) new)) ∙ h))
+    (sym (add_by_names sheet row c.len.result c.rows.ensures.standing.regular c.requires c.rows.ensures.standing.well_formed.once (sym c.len.ensures) full (new_name sheet (name_of row) new)) ∙ h))
 
 pub returns-clause-standing : goal.returns-clause-standing
 returns-clause-standing c =

@@ -10,18 +10,18 @@ use Rattle.sheet_edits.proofs.sheet.Sheet.check_left.Goals as goal
 
 pub returns-then-loses_nothing : goal.returns-then-loses_nothing
 returns-then-loses_nothing c =
-    none_left c.args.self.now (row_of c.args.row.now) c.rows-rows.ensures.standing.well_formed c.requires (sym c.loses_nothing.ensures ∙ c.if-loses_nothing.true)
+    none_left c.args.self.now (row_of c.args.old.now) (row_of c.args.row.now) c.rows-rows.ensures.standing.well_formed c.rows-rows.ensures.standing.regular c.requires.regular c.requires.old (sym c.loses_nothing.ensures ∙ c.if-loses_nothing.true)
 
 pub returns-in-Some : goal.returns-in-Some
 returns-in-Some c =
     let sheet = c.args.self.now in
     let row = row_of c.args.row.now in
-    let users = ap (λ rows. option_map name_of (find (is_left_by row) rows)) (sym c.rows-rows.ensures.rows) ∙ sym c.first_left_by.ensures ∙ c.in-Some.is in
-    λ memory. left_by_name sheet row c.rows-rows.ensures.standing.well_formed c.requires ∙ ap (λ u. unless u InUse (Ok (set_row row sheet))) users
+    let users = ap (λ rows. option_map name_of (find (is_left_by (row_of c.args.old.now) row) rows)) (sym c.rows-rows.ensures.rows) ∙ sym c.first_left_by.ensures ∙ c.in-Some.is in
+    λ memory. left_by_name sheet (row_of c.args.old.now) row c.rows-rows.ensures.standing.well_formed c.rows-rows.ensures.standing.regular c.requires.regular c.requires.old ∙ ap (λ u. unless u InUse (Ok (set_row row sheet))) users
 
 pub returns-in-None : goal.returns-in-None
 returns-in-None c =
     let sheet = c.args.self.now in
     let row = row_of c.args.row.now in
-    let users = ap (λ rows. option_map name_of (find (is_left_by row) rows)) (sym c.rows-rows.ensures.rows) ∙ sym c.first_left_by.ensures ∙ c.in-None.is in
-    left_by_name sheet row c.rows-rows.ensures.standing.well_formed c.requires ∙ ap (λ u. unless u InUse (Ok (set_row row sheet))) users
+    let users = ap (λ rows. option_map name_of (find (is_left_by (row_of c.args.old.now) row) rows)) (sym c.rows-rows.ensures.rows) ∙ sym c.first_left_by.ensures ∙ c.in-None.is in
+    left_by_name sheet (row_of c.args.old.now) row c.rows-rows.ensures.standing.well_formed c.rows-rows.ensures.standing.regular c.requires.regular c.requires.old ∙ ap (λ u. unless u InUse (Ok (set_row row sheet))) users
