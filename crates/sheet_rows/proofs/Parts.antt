@@ -68,6 +68,7 @@ new_there text r t c f e h k = rw (f, e, column_is_name t c h k) refl
 pub new_is : (text n : List ℕ) (r : Option (List ℕ)) (t c : List ℕ) → r ≡ (if is_name text then Some text else None) → r ≡ Some n
     → text ≡ column_name t c → is_plain_name t ≡ true → is_plain_name c ≡ true → n ≡ column_name t c
 new_is text n r t c f g e h k = let there = new_there text r t c f e h k in cc
+
 -- bytes put over the start of a text, then a point, then bytes
 pub built : (t c a b z : List ℕ) (k : ℕ) → a ≡ t → b ≡ c → length t + 1 + length c ≤ length z
     → take (length t + 1 + length c) (put_mid (length t + 1) k (slice_set (a ++ drop (length t) z) (length t) 46) b) ≡ column_name t c

@@ -1,4 +1,5 @@
 use line_text::OutOfMemory;
+use table_records::RecordsFault;
 use type_a::ReadingsFault;
 use type_b::ShapeFault;
 
@@ -8,9 +9,10 @@ use type_b::ShapeFault;
 pub enum RowFault {
     /// No row goes on with this word or token, or the line ends too early.
     Syntax(usize),
-    /// The word is no literal where a number must stand.
+    /// The word is no literal where a number must stand. In a table the number is that of the record with such a
+    /// field, the header being 1.
     NotNumber(usize),
-    /// The number is a literal that is no bound.
+    /// The number is a literal that is no bound. In a table the number is that of the record, the header being 1.
     NumberRange(usize),
     /// A name stands before a parenthesis.
     UnknownFunction(usize),
@@ -33,14 +35,16 @@ pub enum RowFault {
     DofRange,
     /// The correlation coefficient is below -1 or above 1.
     RRange,
-    /// There are fewer than 2 readings.
+    /// There are fewer than 2 readings, or records of a table below its header.
     TooFew,
-    /// There are more than 1,000 readings.
+    /// There are more than 1,000 readings, or records of a table below its header.
     TooMany,
-    /// This record of readings, counted from 1, has not 1 to 8 readings, or not as many as the first one.
+    /// This record of a table, the header being 1, is no header of 1 to 8 different plain names other than `end`, or
+    /// has not as many fields as the header.
     Shape(usize),
     /// This reading, counted from 1, is the first whose magnitude is 10^9 or more, or 10^15 or more units of the
-    /// finest place of all readings.
+    /// finest place of all readings. In a table the number is that of the first record with such a reading, the
+    /// header being 1.
     Wide(usize),
     /// The line goes on with a form of the language that this version does not have.
     NotBuilt,
@@ -88,6 +92,23 @@ impl From<ReadingsFault> for RowFault {
             ReadingsFault::Shape(place) => RowFault::Shape(place),
             ReadingsFault::Wide(place) => RowFault::Wide(place),
             ReadingsFault::OutOfMemory => RowFault::OutOfMemory,
+        }
+    }
+}
+
+impl From<RecordsFault> for RowFault {
+    ghost use Rattle.std.specs.Prelude.{◌≡◌};
+    ghost use Rattle.sheet_rows.specs.Faults.{records_fault};
+
+    ghost from_gives = { λ fault row_fault. row_fault ≡ records_fault fault };
+
+    fn from(fault: RecordsFault) -> RowFault {
+        match fault {
+            RecordsFault::TooFew => RowFault::TooFew,
+            RecordsFault::Shape(place) => RowFault::Shape(place),
+            RecordsFault::NotNumber(place) => RowFault::NotNumber(place),
+            RecordsFault::NumberRange(place) => RowFault::NumberRange(place),
+            RecordsFault::OutOfMemory => RowFault::OutOfMemory,
         }
     }
 }
