@@ -17,17 +17,17 @@ const FIRST: &[u8; 38] = b"given X 5 std 1\nlet Y = X + 2\nvalue Y\n";
 const FIRST_REPLIES: &[u8; 18] = b"ok\nok\nvalue Y 7 7\n";
 
 // Some rows and a mark, and what a dump of them prints.
-const SHEET: &[u8; 120] =
-    b"given X 5 std 1\nlet Y = X + 2\ngiven x 1 exact\ngiven A 1 std 1\ngiven B 2 exp 1 2\ncorr P A B -0.5\nreadings R 1 2.5\nmark M\n";
+const SHEET: &[u8; 158] =
+    b"given X 5 std 1\nlet Y = X + 2\ngiven x 1 exact\ngiven A 1 std 1\ngiven B 2 exp 1 2\ncorr P A B -0.5\nreadings R 1 2.5\ntable T\nA,B\n1,2.5\n3,4\nend\nlet W = T.B\nmark M\n";
 
-const DUMP: &[u8; 116] =
-    b"given X 5 std 1\nlet Y = X + 2\ngiven x 1 exact\ngiven A 1 std 1\ngiven B 2 exp 1 2\ncorr P A B -0.5\nreadings R 1 2.5\nok\n";
+const DUMP: &[u8; 154] =
+    b"given X 5 std 1\nlet Y = X + 2\ngiven x 1 exact\ngiven A 1 std 1\ngiven B 2 exp 1 2\ncorr P A B -0.5\nreadings R 1 2.5\ntable T\nA,B\n1,2.5\n3,4\nend\nlet W = T.B\nok\n";
 
 // What is replied to these lines.
-const MADE: &[u8; 24] = b"ok\nok\nok\nok\nok\nok\nok\nok\n";
+const MADE: &[u8; 30] = b"ok\nok\nok\nok\nok\nok\nok\nok\nok\nok\n";
 
 // Lines that are refused on this sheet as they stand, and why.
-const REFUSED_LINES: [(&str, &str); 32] = [
+const REFUSED_LINES: [(&str, &str); 31] = [
     ("let Z = X +", "syntax 12"),
     ("mark X.Y", "syntax 6"),
     ("given Z 5. std 1", "not_number 9"),
@@ -63,7 +63,6 @@ const REFUSED_LINES: [(&str, &str); 32] = [
     ("corr Q X x 1.01", "r_range"),
     ("corr Q X x -1.01", "r_range"),
     ("tol Z upper 1 guard 1", "not_built"),
-    ("table T\nA\ndump\nend", "not_built"),
     ("var X", "not_built"),
     ("value X\r\r", "syntax 7"),
 ];
@@ -99,8 +98,31 @@ const REFUSED_COMMANDS: [(&str, &str); 27] = [
     ("value X.Y", "no_such_result X.Y"),
 ];
 
-// Inputs of each shape and with degrees of freedom, readings and correlations, as they are written and as they are dumped.
-const SHAPES: [(&str, &str); 15] = [
+// Tables, and commands by their names, that are refused on this sheet, and why.
+const REFUSED_TABLES: [(&str, &str); 19] = [
+    ("table U\nend", "too_few"),
+    ("table U\nA\n1\nend", "too_few"),
+    ("table U\nV,V\n1,2\n3,4\nend", "shape 1"),
+    ("table U\nV,I\n1,2\n3\nend", "shape 3"),
+    ("table U\nA\n1\nx\nend", "not_number 3"),
+    ("table U\nA\n1\n1e999\nend", "number_range 3"),
+    ("table U\nA\n1\n1000000000\nend", "wide 3"),
+    ("table\nA\n1\n2\nend", "syntax 6"),
+    ("table U.V\nA\n1\n2\nend", "syntax 7"),
+    ("set table U x\nA\n1\n2\nend", "syntax 13"),
+    ("table X\nA\n1\n2\nend", "duplicate X"),
+    ("set table U\nA\n1\n2\nend", "unknown U"),
+    ("set table T\nA\n1\n2\nend", "in_use W"),
+    ("set given T 1 std 1", "in_use W"),
+    ("remove T", "in_use W"),
+    ("let Z = T", "unknown T"),
+    ("let Z = T.C", "unknown T.C"),
+    ("corr Q X T.A 0", "not_correlatable T.A"),
+    ("value T", "no_such_result T"),
+];
+
+// Inputs of each shape and with degrees of freedom, readings, tables and correlations, as they are written and as they are dumped.
+const SHAPES: [(&str, &str); 16] = [
     ("given A 1.50 exact", "given A 1.5 exact"),
     ("given B +2 std 1e-1", "given B 2 std 0.1"),
     ("given C 3 exp 0.050 2.0", "given C 3 exp 0.05 2"),
@@ -119,6 +141,10 @@ const SHAPES: [(&str, &str); 15] = [
     ("readings M 1e1 -0.50\t2 # note", "readings M 10 -0.5 2"),
     ("corr N C E -0.50", "corr N C E -0.5"),
     ("corr O B D +1", "corr O B D 1"),
+    (
+        "table P # two\nA , B\n1.50,2e0\n\n3,\"4\"\n end",
+        "table P\nA,B\n1.5,2\n3,4\nend",
+    ),
 ];
 
 // Takes one byte at a time.
@@ -267,7 +293,7 @@ fn refuses_lines(rt: HostRuntime) -> Result<(), Fail> {
         b"var X\nvalue T.V\ntol T\nvalue\nvalue X Y\n"
             => b"refused not_built\nrefused no_such_result T.V\nrefused not_built\nrefused syntax 6\nrefused syntax 9\n",
         b"undo\nset table T # end\r\nA # ohm\n \t\nundo\nend # A\n \tend\r\nredo\n"
-            => b"refused nothing_to_undo\nrefused not_built\nrefused nothing_to_redo\n",
+            => b"refused nothing_to_undo\nrefused shape 1\nrefused nothing_to_redo\n",
         b"table T\nA\nundo\n" => b"refused open_table\n",
         b"table T" => b"refused open_table\n",
     }
@@ -310,6 +336,20 @@ fn refused_commands_leave_the_sheet(rt: HostRuntime) -> Result<(), Fail> {
     let mut script = SHEET.to_vec(rt.alloc())?;
     let mut wanted = MADE.to_vec(rt.alloc())?;
     for (line, refusal) in REFUSED_COMMANDS {
+        refuse(&mut script, &mut wanted, line, refusal)?;
+    }
+    let (status, replies) = replies_to(&rt, "run", &script)?;
+    assert_eq!(rt; status, Status::Done);
+    assert_eq!(rt; replies.as_slice(), wanted.as_slice());
+    Ok(())
+}
+
+// And before and after each refused table.
+#[test]
+fn refused_tables_leave_the_sheet(rt: HostRuntime) -> Result<(), Fail> {
+    let mut script = SHEET.to_vec(rt.alloc())?;
+    let mut wanted = MADE.to_vec(rt.alloc())?;
+    for (line, refusal) in REFUSED_TABLES {
         refuse(&mut script, &mut wanted, line, refusal)?;
     }
     let (status, replies) = replies_to(&rt, "run", &script)?;

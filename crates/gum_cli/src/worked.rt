@@ -24,13 +24,25 @@ pub fn worked_refusals()
     ensures syntax { out (codes "given X\nvalue X\r\r\n") ≡ codes "refused syntax 8\nrefused syntax 7\n" }
     ensures not_number { out (codes "given X 5. std 1\n") ≡ codes "refused not_number 9\n" }
     ensures not_built { out (codes "tol G upper 1 guard 1\nvar X\n") ≡ codes "refused not_built\nrefused not_built\n" }
-    ensures block { out (codes "set table T\r\nA # ohm\nundo\n end\r\nundo\n") ≡ codes "refused not_built\nrefused nothing_to_undo\n" }
+    ensures block { out (codes "set table T\r\nA # ohm\nundo\n end\r\nundo\n") ≡ codes "refused shape 1\nrefused nothing_to_undo\n" }
     ensures open_table { out (codes "undo\ntable T\nA\nundo\n") ≡ codes "refused nothing_to_undo\nrefused open_table\n" }
     ensures early_block { early (codes "undo\ntable T\nA\nend") ≡ codes "refused nothing_to_undo\n" }
     ensures negative { out (codes "given X 5 std -1\n") ≡ codes "refused negative\n" }
     ensures shapes { out (codes "given X 1 exp 1 0\ngiven X 1 trap 1 1.1\ngiven X 1 norm 2 50\n")
         ≡ codes "refused zero_k\nrefused beta\nrefused level\n" }
     ensures degrees { out (codes "given X 1 exact rel 71\ngiven X 1 norm 2 dof 5\n") ≡ codes "refused dof_range\nrefused syntax 22\n" }
+{}
+
+/// Joint readings: the voltages and the currents of JCGM 100:2008, Table H.2, with the resistance that is their
+/// quotient; how a table is dumped, refused and used.
+pub fn worked_tables()
+    ensures means { out (codes "table T\nV,I\n5.007,19.663\n4.994,19.639\n5.005,19.640\n4.990,19.685\n4.999,19.678\nend\nlet R = 1000*T.V/T.I\nvalue T.V\nvalue T.I\nvalue R\n")
+        ≡ codes "ok\nok\nvalue T.V 4.999 4.999\nvalue T.I 19.661 19.661\nvalue R 254.25970194801892 254.259701948018921\n" }
+    ensures dumped { out (codes "table T # two\r\n\"A\", B\r\n1.50,2e0\n\n3 ,4\n end\ndump\n") ≡ codes "ok\ntable T\nA,B\n1.5,2\n3,4\nend\nok\n" }
+    ensures refused { out (codes "table T\nV,I\n1,2\n3\nend\ntable T\nV\n1\n1000000000\nend\ntable T.V\nV\nend\n")
+        ≡ codes "refused shape 3\nrefused wide 3\nrefused syntax 7\n" }
+    ensures used { out (codes "table T\nA,B\n1,2\n3,4\nend\nlet Y = T.B\nset table T\nA\n1\n2\nend\nremove T\nvalue T\nset table T\nB\n5\n6\nend\nvalue Y\nvalue T.A\n")
+        ≡ codes "ok\nok\nrefused in_use Y\nrefused in_use Y\nrefused no_such_result T\nok\nvalue Y 5.5 5.5\nrefused no_such_result T.A\n" }
 {}
 
 /// Readings, whose value is their mean, and correlations.
