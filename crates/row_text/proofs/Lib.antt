@@ -4,9 +4,14 @@ pub mod PlainBytes
 pub mod SolidTexts
 pub mod PartedWords
 pub mod PrintedGivens
+pub mod Widths
 pub mod OneColumn
+pub mod JoinedTexts
+pub mod WrittenRecords
 pub mod PrintedReadings
 pub mod PrintedCorrelations
 pub mod ReadNumbers
+pub mod PrintedTables
 pub mod PrintedRows
 pub mod NoMemory
+pub mod Places

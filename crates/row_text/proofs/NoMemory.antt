@@ -1,5 +1,5 @@
 -- What a line gives as a row is never out of memory.
-use Rattle.std.proofs.Common.{◌≡◌, ◌≢◌, ℕ, Bool, true, false, cond, nat_lt, List, [], ◌∷◌, ◌+◌, length, drop, Result, Option, None, Some, Ok, Err, IfErr, refl, subst}
+use Rattle.std.proofs.Common.{◌≡◌, ◌≢◌, ℕ, Bool, true, false, cond, nat_lt, List, [], ◌∷◌, ◌+◌, length, drop, map, ◌==◌, Result, Option, None, Some, Ok, Err, IfErr, refl, subst}
 use Rattle.std.specs.Prelude.{codes, bytes_eq, if◌then◌else◌}
 use Rattle.std.specs.List.{position_from}
 use Rattle.decimal18.specs.Bound.{Bound}
@@ -19,13 +19,19 @@ use Rattle.type_b.specs.declared.shape.ShapeFault.TheVariants.{Negative as Negat
 use Rattle.type_b.specs.declared.shape.Shape.{Shape}
 use Rattle.type_b.specs.declared.shape.Shape.TheVariants.{Std, Exp, Norm, Rect, Tri, Trap, Arcsine}
 use Rattle.type_b.specs.declared.shape.Dof.{Dof}
+use Rattle.table_records.specs.Records.{Record, trimmed, records_of}
+use Rattle.table_records.specs.Header.{is_header}
+use Rattle.table_records.specs.Tables.{Table as Records, then_read as then_records, number_in, numbers_of as fields_read, row_of as row_in, rows_of, names_of, table_in, records_read}
+use Rattle.table_records.specs.declared.fault.RecordsFault.{RecordsFault}
+use Rattle.table_records.specs.declared.fault.RecordsFault.TheVariants.{Shape as OtherFields}
 use Rattle.type_a.specs.Tables.{Table, width_of, finest, is_misshapen, has_wide, first_of, refusal, unless, readings_of}
 use Rattle.type_a.specs.Tables.{single}
 use Rattle.type_a.specs.declared.readings.ReadingsFault.{ReadingsFault}
-use Rattle.type_a.specs.declared.readings.ReadingsFault.TheVariants.{TooFew as FewReadings, TooMany as ManyReadings, Shape as OtherWidth, Wide as WideReading}
-use Rattle.sheet_rows.specs.Faults.{readings_fault}
+use Rattle.type_a.specs.declared.readings.ReadingsFault.TheVariants.{TooFew as FewReadings, TooMany as ManyReadings, Shape as OtherWidth, Wide as WideReading, OutOfMemory as ReadingsMemory}
+use Rattle.sheet_rows.specs.Faults.{readings_fault, records_fault}
 use Rattle.sheet_rows.specs.Regular.{is_coefficient}
 use Rattle.row_text.specs.Readings.{numbers_of, table_taken, readings_of_words}
+use Rattle.row_text.specs.Tables.{sole_name, head_name, records_taken, below_header, below_taken, joint_of, table_at, table_read}
 use Rattle.row_text.specs.Correlations.{coefficient_checked, corr_of}
 use Rattle.row_text.specs.Parts.{Read, then_read, any_word, plain_word, name_word, number_of, number_word, ended}
 use Rattle.row_text.specs.Givens.{kind_of, level_of, with_number, with_numbers, with_level, shape_of_kind, shape_named, shape_word, dof_of, rel_of, degrees_word, shape_checked, degrees_checked, given_of}
@@ -217,6 +223,88 @@ readings_failed end ws =
     then_failed (plain_word end ws) _ (plain_failed end ws) (λ name.
     then_failed (numbers_of name.rest) _ (numbers_failed name.rest) (λ numbers.
     then_failed (table_taken (readings_of (single numbers))) _ (unless_failed (refusal (single numbers)) (single numbers) (refusal_no_memory (single numbers))) (λ table. tt)))
+
+-- ---- tables
+-- what crate table_records reads
+abbrev IfRecordsFailed : {A : Type 0} → Result A RecordsFault → Type 0
+IfRecordsFailed (Ok x) = Unit {0}
+IfRecordsFailed (Err fault) = IsNoMemory (records_fault fault)
+
+records_then_failed : {A B : Type 0} (r : Result A RecordsFault) (next : A → Result B RecordsFault) → IfRecordsFailed r →
+    ((x : A) → IfRecordsFailed (next x)) → IfRecordsFailed (then_records r next)
+records_then_failed (Err fault) next h k = h
+records_then_failed (Ok x) next h k = k x
+
+records_cond_failed : {A : Type 0} (t : Bool) (a b : Result A RecordsFault) → IfRecordsFailed a → IfRecordsFailed b → IfRecordsFailed (cond t a b)
+records_cond_failed true a b h k = h
+records_cond_failed false a b h k = k
+
+field_failed : (k : ℕ) (r : Result Bound NumFault) → IfRecordsFailed (number_in k r)
+field_failed k (Ok b) = tt
+field_failed k (Err NoLiteral) = tt
+field_failed k (Err NoBound) = tt
+
+fields_failed : (k : ℕ) (fields : Record) → IfRecordsFailed (fields_read k fields)
+fields_failed k [] = tt
+fields_failed k (field ∷ fields) =
+    records_then_failed (number_in k (parsed (trimmed field))) _ (field_failed k (parsed (trimmed field))) (λ b.
+    records_then_failed (fields_read k fields) _ (fields_failed k fields) (λ bs. tt))
+
+records_row_failed : (width k : ℕ) (fields : Record) → IfRecordsFailed (row_in width k fields)
+records_row_failed width k fields = records_cond_failed (length fields == width) (fields_read k fields) (Err (OtherFields k)) (fields_failed k fields) tt
+
+rows_failed : (width k : ℕ) (records : List Record) → IfRecordsFailed (rows_of width k records)
+rows_failed width k [] = tt
+rows_failed width k (r ∷ rs) =
+    records_then_failed (row_in width k r) _ (records_row_failed width k r) (λ row.
+    records_then_failed (rows_of width (k + 1) rs) _ (rows_failed width (k + 1) rs) (λ rows. tt))
+
+names_failed : (header : Record) → IfRecordsFailed (names_of header)
+names_failed header = records_cond_failed (is_header (map trimmed header)) (Ok (map trimmed header)) (Err (OtherFields 1)) tt tt
+
+table_failed : (records : List Record) → IfRecordsFailed (table_in records)
+table_failed [] = tt
+table_failed (header ∷ below) =
+    records_then_failed (names_of header) _ (names_failed header) (λ names.
+    records_then_failed (rows_of (length names) 2 below) _ (rows_failed (length names) 2 below) (λ rows. tt))
+
+records_failed : (r : Result Records RecordsFault) → IfRecordsFailed r → IfFailed (records_taken r)
+records_failed (Ok records) h = tt
+records_failed (Err fault) h = h
+
+header_failed : (fault : ReadingsFault) → IsNoMemory (readings_fault fault) → IsNoMemory (below_header fault)
+header_failed FewReadings h = tt
+header_failed ManyReadings h = tt
+header_failed (OtherWidth k) h = tt
+header_failed (WideReading k) h = tt
+header_failed ReadingsMemory h = h
+
+below_failed : (o : Option ReadingsFault) (t : Table) → IsNoTableMemory o → IfFailed (below_taken (unless o t))
+below_failed None t h = tt
+below_failed (Some fault) t h = header_failed fault h
+
+joint_failed : (name block : List ℕ) → IfFailed (joint_of name block)
+unfolding records_read
+joint_failed name block =
+    then_failed (records_taken (records_read block)) _ (records_failed (table_in (records_of block)) (table_failed (records_of block))) (λ records.
+    then_failed (below_taken (readings_of records.rows)) _ (below_failed (refusal records.rows) records.rows (refusal_no_memory records.rows)) (λ t. tt))
+
+sole_failed : (end : ℕ) (ws : List Word) → IfFailed (sole_name end ws)
+sole_failed end ws =
+    then_failed (plain_word end ws) _ (plain_failed end ws) (λ name.
+    then_failed (ended name.rest) _ (ended_failed name.rest) (λ done. tt))
+
+head_failed : (end : ℕ) (ws : List Word) → IfFailed (head_name end ws)
+head_failed end [] = tt
+head_failed end (w ∷ ws) = cond_failed (bytes_eq w.text (codes "table")) (sole_name end ws) (Err (Syntax (w.place + 1))) (sole_failed end ws) tt
+
+pub table_never : (line : List ℕ) (ws : List Word) (block : List ℕ) → table_at line ws block ≢ Err OutOfMemory
+table_never line ws block h =
+    subst IfFailed h (then_failed (head_name (length line) ws) _ (head_failed (length line) ws) (λ name. joint_failed name block))
+
+pub never_table_memory : (line : List ℕ) (from : ℕ) (block : List ℕ) → table_read line from block ≢ Err OutOfMemory
+unfolding table_read
+never_table_memory line from block = table_never (written_part line) (words_from (written_part line) from) block
 
 -- ---- formulas
 fault_failed : (at : ℕ) (fault : FormulaFault) → fault ≢ FormulaMemory → IsNoMemory (formula_fault at fault)

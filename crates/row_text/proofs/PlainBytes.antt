@@ -1,14 +1,15 @@
--- The bytes of names and numbers: none is a blank, `#` or `=`.
-use Rattle.std.proofs.lemmas.Bool.{and_parts, and_from}
-use Rattle.std.proofs.Common.{◌≡◌, ℕ, zero, suc, ◌+◌, ◌/◌, ◌%◌, ◌^◌, ◌<◌, ◌==◌, ◌&&◌, Bool, true, List, [], ◌∷◌, ◌++◌, length, refl, ◌∙◌, arith, length-append}
+-- The bytes of names and numbers: none is a blank, `#` or `=`, and none needs quotes in a record.
+use Rattle.std.proofs.lemmas.Bool.{and_parts, and_from, not-true}
+use Rattle.std.proofs.Common.{◌≡◌, ℕ, zero, suc, ◌+◌, ◌/◌, ◌%◌, ◌^◌, ◌<◌, ◌==◌, ◌&&◌, not, Bool, true, false, List, [], ◌∷◌, ◌++◌, length, refl, ◌∙◌, arith, length-append}
 use Rattle.std.specs.Prelude.{ℤ, pos, negsuc, unsigned_abs, decimal}
-use Rattle.std.specs.List.{list_all, slice_split, join_with_byte}
+use Rattle.std.specs.List.{list_all, list_any, slice_split, join_with_byte}
 use Rattle.std.specs.Char.{is_ascii_digit}
 use Rattle.std.proofs.Math.Nat.{div-le_self}
 use Rattle.std.proofs.lemmas.Bool.Decides.{nat_tests}
 use Rattle.std.proofs.lemmas.Fmt.{digits_decimal, decimal_nonempty}
 use Rattle.std.proofs.lemmas.List.Folds.{list_all-append}
 use Rattle.std.proofs.lemmas.List.Splits.{join_with_byte-slice_split}
+use Rattle.csv.specs.Writing.{default_writer, needs_byte}
 use Rattle.decimal18.specs.Bound.{Bound, IsBound}
 use Rattle.decimal18.specs.Text.{last_digits, sign_of, after_point, text_of}
 use Rattle.decimal18.proofs.LiteralDigits.{numerals}
@@ -18,8 +19,26 @@ use Rattle.formula_ast.specs.Printing.{exponent_text}
 use Rattle.line_text.specs.Words.{is_in_word, is_no_hash}
 use Rattle.row_text.specs.Reading.{is_in_name}
 
+-- a byte of a field without quotes
+abbrev pub is_in_field : ℕ → Bool
+is_in_field byte = not (needs_byte default_writer byte)
+
 abbrev pub is_plain : ℕ → Bool
-is_plain byte = is_in_word byte && (is_no_hash byte && is_in_name byte)
+is_plain byte = is_in_word byte && (is_no_hash byte && (is_in_name byte && is_in_field byte))
+
+-- what a plain byte is
+record IsPlain (byte : ℕ) : Type 0 where
+  in_word : is_in_word byte ≡ true
+  no_hash : is_no_hash byte ≡ true
+  in_name : is_in_name byte ≡ true
+  in_field : is_in_field byte ≡ true
+
+plain_parts : (byte : ℕ) → is_plain byte ≡ true → IsPlain byte
+plain_parts byte h =
+    let one = and_parts (is_in_word byte) (is_no_hash byte && (is_in_name byte && is_in_field byte)) h in
+    let two = and_parts (is_no_hash byte) (is_in_name byte && is_in_field byte) one.1 in
+    let three = and_parts (is_in_name byte) (is_in_field byte) two.1 in
+    record { in_word = one.0; no_hash = two.0; in_name = three.0; in_field = three.1 }
 
 abbrev pub ArePlain : List ℕ → Type 0
 ArePlain text = list_all is_plain text ≡ true
@@ -31,17 +50,19 @@ weaker p q h (byte ∷ bytes) all =
     and_from (q byte) (list_all q bytes) (h byte parts.0) (weaker p q h bytes parts.1)
 
 pub all_in_word : (text : List ℕ) → ArePlain text → list_all is_in_word text ≡ true
-all_in_word text all = weaker is_plain is_in_word (λ byte h. (and_parts (is_in_word byte) (is_no_hash byte && is_in_name byte) h).0) text all
+all_in_word text all = weaker is_plain is_in_word (λ byte h. (plain_parts byte h).in_word) text all
 
 pub all_no_hash : (text : List ℕ) → ArePlain text → list_all is_no_hash text ≡ true
-all_no_hash text all =
-    weaker is_plain is_no_hash
-    (λ byte h. (and_parts (is_no_hash byte) (is_in_name byte) (and_parts (is_in_word byte) (is_no_hash byte && is_in_name byte) h).1).0) text all
+all_no_hash text all = weaker is_plain is_no_hash (λ byte h. (plain_parts byte h).no_hash) text all
 
 pub all_in_name : (text : List ℕ) → ArePlain text → list_all is_in_name text ≡ true
-all_in_name text all =
-    weaker is_plain is_in_name
-    (λ byte h. (and_parts (is_no_hash byte) (is_in_name byte) (and_parts (is_in_word byte) (is_no_hash byte && is_in_name byte) h).1).1) text all
+all_in_name text all = weaker is_plain is_in_name (λ byte h. (plain_parts byte h).in_name) text all
+
+pub no_quotes : (text : List ℕ) → ArePlain text → list_any (needs_byte default_writer) text ≡ false
+no_quotes [] all = refl
+no_quotes (byte ∷ bytes) all =
+    let parts = and_parts (is_plain byte) (list_all is_plain bytes) all in
+    rw (not-true (needs_byte default_writer byte) (plain_parts byte parts.0).in_field) (no_quotes bytes parts.1)
 
 pub plain_append : (xs ys : List ℕ) → ArePlain xs → ArePlain ys → ArePlain (xs ++ ys)
 plain_append xs ys h k = list_all-append is_plain xs ys ∙ and_from _ _ h k

@@ -68,7 +68,7 @@ readings_again : (end p : ℕ) (name : List ℕ) (bs : List Bound) (ws : List Wo
     readings_of (single bs) ≡ Ok (single bs) → readings_of_words end (record { place = p; text = name } ∷ ws) ≡ Ok (Readings name (single bs))
 readings_again end p name bs ws plain numbers taken = rw (plain, numbers, taken) refl
 
-taken_table : (t : Table) → refusal t ≡ None → readings_of t ≡ Ok t
+pub taken_table : (t : Table) → refusal t ≡ None → readings_of t ≡ Ok t
 taken_table t h = ap (λ o. unless o t) h
 
 pub readings_row : (name : List ℕ) (t : Table) → IsRegular (Readings name t) → row_from (readings_line name t) 0 ≡ Ok (Readings name t)

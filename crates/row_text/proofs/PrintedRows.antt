@@ -1,5 +1,5 @@
 -- The printed text of a row is read as the row again.
-use Rattle.std.proofs.Common.{append_assoc, ◌≡◌, ℕ, ◌+◌, ◌<◌, true, List, ◌∷◌, ◌++◌, length, take, drop, refl, sym, ◌∙◌, ap, arith, drop-drop, Ok}
+use Rattle.std.proofs.Common.{append_assoc, ◌≡◌, ℕ, ◌+◌, ◌<◌, true, false, List, ◌∷◌, ◌++◌, length, take, drop, refl, sym, ◌∙◌, ap, arith, drop-drop, Ok}
 use Rattle.std.specs.Prelude.{codes}
 use Rattle.std.specs.List.{list_all, prefix_len}
 use Rattle.std.proofs.Math.Seq.{take-append_seam, drop-append_seam}
@@ -11,10 +11,10 @@ use Rattle.formula_ast.proofs.Again.{read_regular}
 use Rattle.line_text.specs.Blanks.{is_blank}
 use Rattle.line_text.specs.Words.{written_part}
 use Rattle.line_text.proofs.WrittenTexts.{run_whole, IsSolid, solid_written, solid_after, one_word, no_blanks}
-use Rattle.sheet_rows.specs.Rows.{Row, Given, Readings, Correlation, Formula}
+use Rattle.sheet_rows.specs.Rows.{Row, Given, Readings, Joint, Correlation, Formula}
 use Rattle.row_text.specs.Reading.{past_blanks, leading_name, is_in_name, begins_equals, let_of, row_at, row_from, row_read}
 use Rattle.sheet_rows.specs.Regular.{IsRegular}
-use Rattle.row_text.specs.Printing.{printed}
+use Rattle.row_text.specs.Printing.{is_table, printed}
 use Rattle.formula_ast.proofs.MovedPlaces.{read_after_blank}
 use Rattle.row_text.proofs.PlainBytes.{ArePlain, all_in_word, all_no_hash, all_in_name, names_plain, name_some}
 use Rattle.row_text.proofs.SolidTexts.{print_solid}
@@ -78,17 +78,18 @@ unfolding row_read
 line_again text line row e solid read =
     ap (λ t. row_from (written_part t) 0) e ∙ ap (λ t. row_from t 0) (solid_written line solid) ∙ read
 
-pub read_again : (row : Row) → IsRegular row → row_read (printed row) 0 ≡ Ok row
-read_again (Given name e s d) h =
+pub read_again : (row : Row) → IsRegular row → is_table row ≡ false → row_read (printed row) 0 ≡ Ok row
+read_again (Given name e s d) h line =
     line_again (printed (Given name e s d)) (given_line name e s d) (Given name e s d) (given_text name e s d) (given_solid name e s d h)
     (given_row name e s d h)
-read_again (Readings name t) h =
+read_again (Readings name t) h line =
     line_again (printed (Readings name t)) (readings_line name t) (Readings name t) (readings_text name t) (readings_solid name t h)
     (readings_row name t h)
-read_again (Correlation name first second r) h =
+read_again (Joint name columns t) h line = absurd (cc line)
+read_again (Correlation name first second r) h line =
     line_again (printed (Correlation name first second r)) (corr_line name first second r) (Correlation name first second r)
     (corr_text name first second r) (corr_solid name first second r h) (corr_row name first second r h)
-read_again (Formula name f) h =
+read_again (Formula name f) h line =
     line_again (printed (Formula name f)) (let_line name (print f)) (Formula name f) (formula_text name f)
     (formula_solid name f h.0 (print_solid f (read_regular (print f) f h.1)))
     (formula_row name f h.0 h.1)

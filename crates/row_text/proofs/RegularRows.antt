@@ -1,6 +1,7 @@
 -- What lines give are regular rows.
-use Rattle.std.proofs.Common.{◌≡◌, ℕ, ◌+◌, ◌≤◌, Bool, true, false, cond, List, [], ◌∷◌, length, drop, refl, subst, arith, Option, None, Some, Result, Ok, Err, IfOk}
+use Rattle.std.proofs.Common.{◌≡◌, ℕ, suc, ◌+◌, ◌≤◌, ◌==◌, map, ap, Bool, true, false, cond, List, [], ◌∷◌, length, drop, refl, subst, arith, Option, None, Some, Result, Ok, Err, IfOk}
 use Rattle.std.specs.Prelude.{codes, bytes_eq, option_map, IfSome, if◌then◌else◌}
+use Rattle.std.proofs.lemmas.Bool.{eqb-true}
 use Rattle.std.proofs.lemmas.Bool.Decides.{nat_tests}
 use Rattle.decimal18.specs.Bound.{Bound, canonical, IsCanonical, IsDecimal}
 use Rattle.decimal18.specs.Literal.{Literal, literal_of, exact_of, is_bound, as_bound, read, parsed}
@@ -21,12 +22,22 @@ use Rattle.type_b.specs.declared.shape.Shape.TheVariants.{Std, Exp, Norm, Rect, 
 use Rattle.type_b.specs.declared.shape.Dof.{Dof}
 use Rattle.type_b.specs.declared.shape.Dof.TheVariants.{Inf, Whole, Rel}
 use Rattle.type_b.specs.declared.shape.ShapeFault.{ShapeFault}
-use Rattle.sheet_rows.specs.Rows.{Row, Readings}
+use Rattle.line_text.specs.Memory.{GivesBy}
+use Rattle.table_records.specs.Records.{Record, trimmed, records_of}
+use Rattle.table_records.specs.Header.{is_header}
+use Rattle.table_records.specs.Tables.{Table as Records, then_read as then_records, number_in, numbers_of as fields_read, row_of as row_in, rows_of, names_of, table_in, records_read}
+use Rattle.table_records.specs.declared.fault.RecordsFault.{RecordsFault}
+use Rattle.table_records.specs.declared.fault.RecordsFault.TheVariants.{Shape as OtherFields}
+use Rattle.sheet_rows.specs.Rows.{Row, Readings, Joint, row_of}
+use Rattle.sheet_rows.specs.declared.row.Row.{Row as CodeRow}
+use Rattle.sheet_rows.specs.declared.fault.RowFault.{RowFault}
 use Rattle.type_a.specs.Tables.{Table, width_of, refusal, unless, readings_of}
 use Rattle.type_a.specs.Tables.{single}
 use Rattle.type_a.specs.declared.readings.ReadingsFault.{ReadingsFault}
 use Rattle.type_a.proofs.Accepted.{at_least_two}
 use Rattle.row_text.specs.Readings.{numbers_of, table_taken, readings_of_words}
+use Rattle.row_text.specs.Tables.{sole_name, head_name, records_taken, below_taken, joint_of, table_at, table_read}
+use Rattle.row_text.proofs.Widths.{AreOfWidth, width_is}
 use Rattle.row_text.specs.Correlations.{coefficient_checked, corr_of}
 use Rattle.row_text.specs.Parts.{Read, then_read, Parsed, any_word, plain_word, name_word, number_of, number_word, ended}
 use Rattle.row_text.specs.Givens.{kind_of, level_of, with_number, with_numbers, with_level, shape_of_kind, shape_named, shape_word, whole_of, allowed, dof_of, rel_of, degrees_word, shape_checked, degrees_checked, given_of}
@@ -34,7 +45,7 @@ use Rattle.row_text.specs.Reading.{is_other_kind, past_blanks, leading_name, nam
 use Rattle.row_text.specs.declared.read_shape.ShapeKind.{ShapeKind}
 use Rattle.row_text.specs.declared.read_shape.ShapeKind.TheVariants.{Exact as ExactKind, Std as StdKind, Exp as ExpKind, Norm as NormKind, Rect as RectKind, Tri as TriKind, Trap as TrapKind, Arcsine as ArcsineKind}
 use Rattle.sheet_rows.specs.Regular.{IsRegular, AreDecimals, AllAreDecimals, is_coefficient}
-use Rattle.sheet_rows.specs.declared.fault.RowFault.TheVariants.{Syntax, RRange, NotBuilt}
+use Rattle.sheet_rows.specs.declared.fault.RowFault.TheVariants.{Syntax, RRange, NotBuilt, OutOfMemory}
 
 -- ---- numbers
 bound_decimal : (c : Bound) (t : Bool) → is_bound c ≡ t → IsCanonical c → (b : Bound) → cond t (Some c) None ≡ Some b → IsDecimal b
@@ -236,6 +247,108 @@ regular_readings name ws bs t u plain numbers same taken =
     readings_row name bs u plain (ok_is AreDecimals (numbers_of ws) bs numbers (numbers_ok ws))
     (subst (λ v. IsTable v u) same (table_is (refusal t) t u refl taken))
 
+-- ---- tables
+-- what crate table_records reads
+records_then_ok : {A B : Type 0} (P : A → Type 0) (Q : B → Type 0) (r : Result A RecordsFault) (next : A → Result B RecordsFault) → IfOk r P →
+    ((x : A) → P x → IfOk (next x) Q) → IfOk (then_records r next) Q
+records_then_ok P Q (Err fault) next h k = tt
+records_then_ok P Q (Ok x) next h k = k x h
+
+records_cond_ok : {A : Type 0} (P : A → Type 0) (t : Bool) (a b : Result A RecordsFault) → (t ≡ true → IfOk a P) → IfOk b P → IfOk (cond t a b) P
+records_cond_ok P true a b h k = h refl
+records_cond_ok P false a b h k = k
+
+field_ok : (k : ℕ) (r : Result Bound NumFault) → ((b : Bound) → r ≡ Ok b → IsDecimal b) → IfOk (number_in k r) IsDecimal
+field_ok k (Ok b) h = h b refl
+field_ok k (Err NoLiteral) h = tt
+field_ok k (Err NoBound) h = tt
+
+-- so many bounds in canonical form
+abbrev AreDecimalsOf : ℕ → List Bound → Type 0
+AreDecimalsOf n bs = AreDecimals bs × (length bs ≡ n)
+
+fields_ok : (k : ℕ) (fields : Record) → IfOk (fields_read k fields) (AreDecimalsOf (length fields))
+fields_ok k [] = (tt, refl)
+fields_ok k (field ∷ fields) =
+    records_then_ok IsDecimal (AreDecimalsOf (suc (length fields))) (number_in k (parsed (trimmed field))) _
+    (field_ok k (parsed (trimmed field)) (λ b h. parsed_decimal (trimmed field) b h)) (λ b d.
+    records_then_ok (AreDecimalsOf (length fields)) (AreDecimalsOf (suc (length fields))) (fields_read k fields) _ (fields_ok k fields) (λ bs h.
+    ((d, h.0), ap suc h.1)))
+
+record_ok : (width k : ℕ) (fields : Record) → IfOk (row_in width k fields) (AreDecimalsOf width)
+record_ok width k fields =
+    records_cond_ok (AreDecimalsOf width) (length fields == width) (fields_read k fields) (Err (OtherFields k))
+    (λ e. subst (λ n. IfOk (fields_read k fields) (AreDecimalsOf n)) (eqb-true (length fields) width e) (fields_ok k fields)) tt
+
+abbrev AreRowsOf : ℕ → Table → Type 0
+AreRowsOf width t = AllAreDecimals t × AreOfWidth width t
+
+rows_ok : (width k : ℕ) (records : List Record) → IfOk (rows_of width k records) (AreRowsOf width)
+rows_ok width k [] = (tt, tt)
+rows_ok width k (r ∷ rs) =
+    records_then_ok (AreDecimalsOf width) (AreRowsOf width) (row_in width k r) _ (record_ok width k r) (λ row d.
+    records_then_ok (AreRowsOf width) (AreRowsOf width) (rows_of width (k + 1) rs) _ (rows_ok width (k + 1) rs) (λ rows ds.
+    ((d.0, ds.0), (d.1, ds.1))))
+
+names_ok : (header : Record) → IfOk (names_of header) (λ names. is_header names ≡ true)
+names_ok header =
+    records_cond_ok (λ names. is_header names ≡ true) (is_header (map trimmed header)) (Ok (map trimmed header)) (Err (OtherFields 1)) (λ e. e) tt
+
+-- the columns and the numbers of a block
+abbrev HasColumns : Records → Type 0
+HasColumns t = (is_header t.columns ≡ true) × AreRowsOf (length t.columns) t.rows
+
+table_ok : (records : List Record) → IfOk (table_in records) HasColumns
+table_ok [] = tt
+table_ok (header ∷ below) =
+    records_then_ok (λ names. is_header names ≡ true) HasColumns (names_of header) _ (names_ok header) (λ names h.
+    records_then_ok (AreRowsOf (length names)) HasColumns (rows_of (length names) 2 below) _ (rows_ok (length names) 2 below) (λ rows k. (h, k)))
+
+records_ok : (r : Result Records RecordsFault) → IfOk r HasColumns → IfOk (records_taken r) HasColumns
+records_ok (Ok records) h = h
+records_ok (Err fault) h = tt
+
+below_ok : (o : Option ReadingsFault) (t : Table) → refusal t ≡ o → IfOk (below_taken (unless o t)) (IsTable t)
+unfolding IsTable
+below_ok None t e = (refl, e)
+below_ok (Some fault) t e = tt
+
+joint_row : (name : List ℕ) (records : Records) (u : Table) → is_plain_name name ≡ true → HasColumns records → IsTable records.rows u →
+    IsRegular (Joint name records.columns u)
+unfolding IsTable
+joint_row name records u plain h taken =
+    subst (λ t. IsRegular (Joint name records.columns t)) taken.0
+    (plain, h.0, h.1.0, width_is (length records.columns) records.rows taken.1 h.1.1, taken.1)
+
+joint_ok : (name block : List ℕ) → is_plain_name name ≡ true → IfOk (joint_of name block) IsRegular
+unfolding records_read
+joint_ok name block plain =
+    then_ok HasColumns IsRegular (records_taken (records_read block)) _ (records_ok (table_in (records_of block)) (table_ok (records_of block))) (λ records h.
+    then_ok (IsTable records.rows) IsRegular (below_taken (readings_of records.rows)) _ (below_ok (refusal records.rows) records.rows refl) (λ u taken.
+    joint_row name records u plain h taken))
+
+sole_ok : (end : ℕ) (ws : List Word) → IfOk (sole_name end ws) (λ name. is_plain_name name ≡ true)
+sole_ok end ws =
+    then_ok (λ x. is_plain_name x.item ≡ true) (λ name. is_plain_name name ≡ true) (plain_word end ws) _ (plain_ok end ws) (λ x plain.
+    then_ok (λ done. Unit {0}) (λ name. is_plain_name name ≡ true) (ended x.rest) _ (any_ok (ended x.rest)) (λ done u. plain))
+
+head_ok : (end : ℕ) (ws : List Word) → IfOk (head_name end ws) (λ name. is_plain_name name ≡ true)
+head_ok end [] = tt
+head_ok end (w ∷ ws) =
+    cond_ok (λ name. is_plain_name name ≡ true) (bytes_eq w.text (codes "table")) (sole_name end ws) (Err (Syntax (w.place + 1)))
+    (λ e. sole_ok end ws) tt
+
+pub table_regular : (line : List ℕ) (ws : List Word) (block : List ℕ) → IfOk (table_at line ws block) IsRegular
+table_regular line ws block =
+    then_ok (λ name. is_plain_name name ≡ true) IsRegular (head_name (length line) ws) _ (head_ok (length line) ws) (λ name plain.
+    joint_ok name block plain)
+
+-- what the code reads
+pub gives_regular : (r : Result CodeRow RowFault) (wanted : Read Row) → GivesBy row_of OutOfMemory r wanted → IfOk wanted IsRegular →
+    IfOk r (λ row. IsRegular (row_of row))
+gives_regular (Ok row) wanted h k = ok_is IsRegular wanted (row_of row) h k
+gives_regular (Err fault) wanted h k = tt
+
 -- ---- correlations
 coefficient_ok : (b : Bound) → IsDecimal b → IfOk (coefficient_checked b) (λ r. IsDecimal r × (is_coefficient r ≡ true))
 coefficient_ok b d =
@@ -286,3 +399,8 @@ read_regular line from = row_regular (written_part line) (words_from (written_pa
 
 pub what_is_read_is_regular : (line : List ℕ) (from : ℕ) (row : Row) → row_read line from ≡ Ok row → IsRegular row
 what_is_read_is_regular line from row h = ok_is IsRegular (row_read line from) row h (read_regular line from)
+
+pub what_a_table_is_is_regular : (line : List ℕ) (from : ℕ) (block : List ℕ) (row : Row) → table_read line from block ≡ Ok row → IsRegular row
+unfolding table_read
+what_a_table_is_is_regular line from block row h =
+    ok_is IsRegular (table_read line from block) row h (table_regular (written_part line) (words_from (written_part line) from) block)

@@ -4,4 +4,5 @@ pub mod Givens
 pub mod Readings
 pub mod Correlations
 pub mod Reading
+pub mod Tables
 pub mod Printing

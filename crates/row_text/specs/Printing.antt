@@ -1,5 +1,8 @@
--- The printed text of a row: single blanks between its words, and numbers in their own form.
-use Rattle.std.specs.Prelude.{ℕ, List, [], ◌∷◌, ◌++◌, map, get_or, pos, codes, decimal}
+-- The printed text of a row: single blanks between its words, and numbers in their own form. A table is printed as
+-- the line that opens it, its block and the line that ends it: fields with commas between them, without blanks or quotes.
+use Rattle.std.specs.Prelude.{ℕ, Bool, true, false, List, [], ◌∷◌, ◌++◌, map, get_or, pos, codes, decimal}
+use Rattle.std.specs.List.{join_with_byte}
+use Rattle.csv.specs.Writing.{comma}
 use Rattle.decimal18.specs.Bound.{Bound, scaled}
 use Rattle.decimal18.specs.Text.{text_of}
 use Rattle.formula_ast.specs.Printing.{print}
@@ -7,8 +10,8 @@ use Rattle.type_b.specs.declared.shape.Shape.{Shape}
 use Rattle.type_b.specs.declared.shape.Shape.TheVariants.{Exact, Std, Exp, Norm, Rect, Tri, Trap, Arcsine}
 use Rattle.type_b.specs.declared.shape.Dof.{Dof}
 use Rattle.type_b.specs.declared.shape.Dof.TheVariants.{Inf, Whole, Rel}
-use Rattle.type_a.specs.Tables.{Table}
-use Rattle.sheet_rows.specs.Rows.{Row, Given, Readings, Correlation, Formula}
+use Rattle.type_a.specs.Tables.{Record, Table}
+use Rattle.sheet_rows.specs.Rows.{Row, Given, Readings, Joint, Correlation, Formula}
 
 abbrev pub shape_text : Shape → List ℕ
 shape_text Exact = codes "exact"
@@ -35,10 +38,42 @@ abbrev pub numbers_text : List Bound → List ℕ
 numbers_text [] = []
 numbers_text (b ∷ bs) = codes " " ++ text_of b ++ numbers_text bs
 
+-- ---- tables
+-- the fields of a record
+abbrev pub number_fields : Record → List (List ℕ)
+number_fields r = map (λ b. text_of b) r
+
+-- a line of fields
+abbrev pub line_of_fields : List (List ℕ) → List ℕ
+line_of_fields fields = join_with_byte comma fields ++ codes "\n"
+
+-- the records, a line each
+abbrev pub records_text : Table → List ℕ
+records_text [] = []
+records_text (r ∷ rs) = line_of_fields (number_fields r) ++ records_text rs
+
+-- the line that opens a table
+abbrev pub head_text : List ℕ → List ℕ
+head_text name = codes "table " ++ name
+
+-- the lines of its block
+abbrev pub block_text : List (List ℕ) → Table → List ℕ
+block_text columns t = line_of_fields columns ++ records_text t
+
+-- ---- rows
+-- whether the text has more than one line
+abbrev pub is_table : Row → Bool
+is_table (Given name estimate shape dof) = false
+is_table (Readings name table) = false
+is_table (Joint name columns table) = true
+is_table (Correlation name first second coefficient) = false
+is_table (Formula name f) = false
+
 abbrev pub printed : Row → List ℕ
 printed (Given name estimate shape dof) =
     codes "given " ++ name ++ codes " " ++ text_of estimate ++ codes " " ++ shape_text shape ++ degrees_text dof
 printed (Readings name table) = codes "readings " ++ name ++ numbers_text (one_column table)
+printed (Joint name columns table) = head_text name ++ codes "\n" ++ block_text columns table ++ codes "end"
 printed (Correlation name first second coefficient) =
     codes "corr " ++ name ++ codes " " ++ first ++ codes " " ++ second ++ codes " " ++ text_of coefficient
 printed (Formula name f) = codes "let " ++ name ++ codes " = " ++ print f

@@ -1,6 +1,6 @@
--- What a line gives as a row: the line without its comment and its last blanks. It is read from left to right,
--- and the first word or token that breaks a rule decides; its place is counted from 1. Where the line ends too
--- early, the place is the one after its end.
+-- What a line gives as a row, other than a table: the line without its comment and its last blanks. It is read from
+-- left to right, and the first word or token that breaks a rule decides; its place is counted from 1. Where the line
+-- ends too early, the place is the one after its end.
 use Rattle.std.specs.Prelude.{ℕ, ◌+◌, ◌==◌, ◌||◌, Bool, false, not, if◌then◌else◌, List, [], ◌∷◌, length, take, drop, Result, Ok, Err, bytes_eq, codes}
 use Rattle.std.specs.List.{prefix_len}
 use Rattle.line_text.specs.Characters.{equals_sign}
@@ -20,9 +20,9 @@ use Rattle.row_text.specs.Correlations.{corr_of}
 use Rattle.sheet_rows.specs.declared.fault.RowFault.{RowFault}
 use Rattle.sheet_rows.specs.declared.fault.RowFault.TheVariants.{Syntax, NotNumber, NumberRange, UnknownFunction, BadPower, TooDeep, TooManyNodes, NotBuilt, OutOfMemory}
 
--- ---- kinds of rows of the language that this version does not have
+-- ---- the kind of row of the language that this version does not have
 abbrev pub is_other_kind : List ℕ → Bool
-is_other_kind text = bytes_eq text (codes "table") || bytes_eq text (codes "tol")
+is_other_kind text = bytes_eq text (codes "tol")
 
 -- ---- formulas: the blanks round `=` may be missing
 -- what was read, and the place after it

@@ -5,6 +5,7 @@ ghost use Rattle.sheet_rows.specs.Rows.{row_of};
 ghost use Rattle.sheet_rows.specs.Regular.{IsRegular};
 ghost use Rattle.row_text.specs.Printing.{shape_text, degrees_text, one_column, numbers_text, printed};
 
+use crate::print_table::put_table;
 use decimal18::Dec;
 use formula_ast::print_formula;
 use itoa::Buffer;
@@ -15,7 +16,12 @@ use type_a::Readings;
 use type_b::{Dof, Shape};
 
 /// Puts the words and the number after them at the end.
-fn put_number(alloc: Global, out: &mut Bytes, words: &[u8], number: &Dec) -> Result<(), OutOfMemory>
+pub(crate) fn put_number(
+    alloc: Global,
+    out: &mut Bytes,
+    words: &[u8],
+    number: &Dec,
+) -> Result<(), OutOfMemory>
     ensures { OnOk result (out.new ≡ out.old ++ words.now ++ text_of number.now) }
 {
     out.extend_from_slice(words)?;
@@ -102,6 +108,11 @@ fn put_row(alloc: Global, out: &mut Bytes, row: &Row) -> Result<(), OutOfMemory>
             out.extend_from_slice(name.as_bytes())?;
             put_readings(alloc, out, readings)
         }
+        Row::Joint {
+            name,
+            columns,
+            readings,
+        } => put_table(alloc, out, name, columns.as_slice(), readings),
         Row::Correlation {
             name,
             first,
@@ -126,8 +137,9 @@ fn put_row(alloc: Global, out: &mut Bytes, row: &Row) -> Result<(), OutOfMemory>
 }
 
 /// The text of the row: `given NAME ESTIMATE SHAPE`, with ` dof N` or ` rel PERCENT` where the degrees of freedom are
-/// not infinitely many, `readings NAME NUMBER NUMBER ..`, `corr NAME FIRST SECOND COEFFICIENT`, or
-/// `let NAME = FORMULA`.
+/// not infinitely many, `readings NAME NUMBER NUMBER ..`, `corr NAME FIRST SECOND COEFFICIENT`, `let NAME = FORMULA`,
+/// or a table: the line `table NAME`, a line of the names of its columns and one for each record, with commas and
+/// neither blanks nor quotes, and then `end`.
 ///
 /// # Errors
 ///

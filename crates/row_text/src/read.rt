@@ -21,16 +21,14 @@ const CORR: &[u8] = b"corr";
 
 const LET: &[u8] = b"let";
 
-// The kinds of rows that this version does not have.
-const TABLE: &[u8] = b"table";
-
+// The kind of row that this version does not have.
 const TOL: &[u8] = b"tol";
 
 /// Whether the word begins a kind of row that this version does not have.
 fn is_other_kind(word: &[u8]) -> bool
     ensures { result ≡ is_other_kind word.now }
 {
-    word == TABLE || word == TOL
+    word == TOL
 }
 
 /// The row that the word `first` begins, where `words` are those after it in the line, which has no comment and

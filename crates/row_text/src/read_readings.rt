@@ -43,7 +43,7 @@ fn records_of(alloc: Global, numbers: &[Dec]) -> Result<Vec<Vec<Dec>>, OutOfMemo
 }
 
 /// The readings, to be shared.
-fn shared(alloc: Global, readings: Readings) -> Result<Rc<Readings>, OutOfMemory>
+pub(crate) fn shared(alloc: Global, readings: Readings) -> Result<Rc<Readings>, OutOfMemory>
     ensures { IfOk result (λ shared. shared.value ≡ readings) }
 {
     Ok(Rc::new(alloc, readings)?)

@@ -109,7 +109,7 @@ const REFUSED: [(&str, RowFault); 104] = [
     ("corr P A B 2 3", RowFault::Syntax(14)),
     ("corr P A B 1.000000000000000001", RowFault::NumberRange(12)),
     ("corr P A B -1.00000000000000001", RowFault::RRange),
-    ("table T a b", RowFault::NotBuilt),
+    ("table T", RowFault::Syntax(1)),
     ("tol X 1", RowFault::NotBuilt),
     ("value X", RowFault::Syntax(1)),
     ("  foo given X 5 exact", RowFault::Syntax(3)),

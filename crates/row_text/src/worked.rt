@@ -5,10 +5,11 @@ ghost use Rattle.decimal18.specs.Bound.{scaled};
 ghost use Rattle.type_b.specs.declared.shape.Shape.TheVariants.{Exact, Std, Exp, Norm, Rect, Tri, Trap, Arcsine};
 ghost use Rattle.type_b.specs.declared.shape.Dof.TheVariants.{Inf, Whole, Rel};
 ghost use Rattle.type_a.specs.Tables.{single};
-ghost use Rattle.sheet_rows.specs.Rows.{Given, Readings, Correlation};
+ghost use Rattle.sheet_rows.specs.Rows.{Given, Readings, Joint, Correlation};
 ghost use Rattle.row_text.specs.Reading.{row_read};
+ghost use Rattle.row_text.specs.Tables.{table_read};
 ghost use Rattle.row_text.specs.Printing.{printed};
-ghost use Rattle.sheet_rows.specs.declared.fault.RowFault.TheVariants.{Syntax, NotNumber, NumberRange, Negative, ZeroK, Beta, Level, DofRange, RRange, TooFew, Wide};
+ghost use Rattle.sheet_rows.specs.declared.fault.RowFault.TheVariants.{Syntax, NotNumber, NumberRange, Negative, ZeroK, Beta, Level, DofRange, RRange, TooFew, Shape, Wide, NotBuilt};
 
 /// The word of each shape, with its parameters in their order.
 pub fn worked_shapes()
@@ -61,6 +62,34 @@ pub fn worked_readings()
     ensures no_name { row_read (codes "readings") 0 ≡ Err (Syntax 9) }
 {}
 
+/// Inputs by joint readings. The line is looked at before the block, and the records before whether there are enough
+/// and whether they are too wide.
+pub fn worked_tables()
+    ensures row { table_read (codes "table PLAIN") 0 (codes "A,B\n1,2\n3,4.50\n") ≡ Ok (Joint (codes "PLAIN") (codes "A" ∷ codes "B" ∷ [])
+        ((scaled (pos 1) 0 ∷ scaled (pos 2) 0 ∷ []) ∷ (scaled (pos 3) 0 ∷ scaled (pos 45) 1 ∷ []) ∷ [])) }
+    ensures set { table_read (codes "set table T # two") 3 (codes " V\n1\n\"2\"") ≡ Ok (Joint (codes "T") (codes "V" ∷ []) (single (scaled (pos 1) 0 ∷ scaled (pos 2) 0 ∷ []))) }
+    ensures shape { table_read (codes "table T") 0 (codes "V,I\n1,2\n3\n") ≡ Err (Shape 3) }
+    ensures header { table_read (codes "table T") 0 (codes "V,V\n1\n") ≡ Err (Shape 1) }
+    ensures number { table_read (codes "table T") 0 (codes "V,I\n1,2\n3,x\n") ≡ Err (NotNumber 3) }
+    ensures range { table_read (codes "table T") 0 (codes "V,I\n1,1e999\n") ≡ Err (NumberRange 2) }
+    ensures empty { table_read (codes "table T") 0 [] ≡ Err TooFew }
+    ensures one { table_read (codes "table T") 0 (codes "V\n1000000000\n") ≡ Err TooFew }
+    ensures wide { table_read (codes "table T") 0 (codes "V,I\n1,1000000000\n2,3\n") ≡ Err (Wide 2) }
+    ensures wide_by_places { table_read (codes "table T") 0 (codes "V,I\n1,2\n3,4\n2000,1e-12\n") ≡ Err (Wide 4) }
+    ensures number_first { table_read (codes "table T") 0 (codes "V\n1000000000\nx\n") ≡ Err (NotNumber 3) }
+    ensures no_name { table_read (codes "table") 0 (codes "V\n1\n2\n") ≡ Err (Syntax 6) }
+    ensures name { table_read (codes "set table T.V") 3 (codes "V\n1\n2\n") ≡ Err (Syntax 11) }
+    ensures word_more { table_read (codes "table T x") 0 (codes "V\n1\n2\n") ≡ Err (Syntax 9) }
+    ensures other_word { table_read (codes "tables T") 0 (codes "V\n1\n2\n") ≡ Err (Syntax 1) }
+    ensures line_first { table_read (codes "table 2") 0 [] ≡ Err (Syntax 7) }
+{}
+
+/// A line without a block gives no table.
+pub fn worked_other_kinds()
+    ensures table { row_read (codes "table T") 0 ≡ Err (Syntax 1) }
+    ensures tolerance { row_read (codes "tol X 1") 0 ≡ Err NotBuilt }
+{}
+
 /// Correlations.
 pub fn worked_correlations()
     ensures row { row_read (codes "corr P T.V B 0.5") 0 ≡ Ok (Correlation (codes "P") (codes "T.V") (codes "B") (scaled (pos 5) 1)) }
@@ -81,5 +110,8 @@ pub fn worked_texts()
     ensures whole { printed (Given (codes "X") (scaled (pos 5) 0) (Norm (scaled (pos 1) 0) 95) (Whole 12)) ≡ codes "given X 5 norm 1 95 dof 12" }
     ensures relative { printed (Given (codes "X") (scaled (pos 5) 0) (Trap (scaled (pos 1) 0) (scaled (pos 5) 1)) (Rel 5)) ≡ codes "given X 5 trap 1 0.5 rel 5" }
     ensures readings { printed (Readings (codes "X") (single (scaled (pos 1) 0 ∷ scaled (pos 25) 1 ∷ scaled (pos 3) 0 ∷ []))) ≡ codes "readings X 1 2.5 3" }
+    ensures table { printed (Joint (codes "PLAIN") (codes "A" ∷ codes "B" ∷ [])
+        ((scaled (pos 1) 0 ∷ scaled (pos 2) 0 ∷ []) ∷ (scaled (pos 3) 0 ∷ scaled (pos 45) 1 ∷ []) ∷ [])) ≡ codes "table PLAIN\nA,B\n1,2\n3,4.5\nend" }
+    ensures one_column { printed (Joint (codes "T") (codes "V" ∷ []) (single (scaled (negsuc 0) 0 ∷ scaled (pos 0) 0 ∷ []))) ≡ codes "table T\nV\n-1\n0\nend" }
     ensures correlation { printed (Correlation (codes "P") (codes "A") (codes "B") (scaled (negsuc 4) 1)) ≡ codes "corr P A B -0.5" }
 {}

@@ -21,3 +21,11 @@ returns-clause-readings c = refl
 pub returns-clause-correlation : goal.returns-clause-correlation
 unfolding digits
 returns-clause-correlation c = refl
+
+pub returns-clause-table : goal.returns-clause-table
+unfolding digits
+returns-clause-table c = refl
+
+pub returns-clause-one_column : goal.returns-clause-one_column
+unfolding digits
+returns-clause-one_column c = refl
