@@ -3,6 +3,8 @@ pub mod Standing
 pub mod Steps
 pub mod Calls
 pub mod Names
+pub mod Fresh
+pub mod Columns
 pub mod Walking
 pub mod Rebuilding
 pub mod ReplyLaws

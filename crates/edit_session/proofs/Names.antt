@@ -1,13 +1,14 @@
 -- The names of a sheet's quantities are those that its rows give.
-use Rattle.std.specs.Prelude.{◌≡◌, ℕ, Bool, true, false, if◌then◌else◌, ◌||◌, List, [], ◌∷◌, ◌++◌, map, is_some, Some, bytes_eq, refl}
+use Rattle.std.specs.Prelude.{◌≡◌, ℕ, ◌+◌, Bool, true, false, List, [], ◌∷◌, ◌++◌, map, bytes_eq, refl}
 use Rattle.std.specs.List.{flat_map, list_any}
 use Rattle.std.proofs.Common.{sym, ◌∙◌, ap, ap₂}
 use Rattle.std.proofs.lemmas.List.{map-append}
 use Rattle.std.proofs.lemmas.Slice.Eq.{bytes_eq-Decides}
-use Rattle.sheet_rows.specs.Rows.{Row, Given, Readings, Correlation, Formula, quantities_of}
+use Rattle.type_a.specs.Tables.{Table}
+use Rattle.sheet_rows.specs.Rows.{Row, Given, Readings, Joint, Correlation, Formula, column_name, column_names, quantities_of}
 use Rattle.sheet_edits.specs.Sheets.{quantities_in, is_quantity_in}
 use Rattle.value_cache.specs.Quantities.{Quantity, is_there}
-use Rattle.edit_session.specs.Replies.{row_quantities}
+use Rattle.edit_session.specs.Replies.{column_quantities, row_quantities}
 
 both : (a b : Bool) → (a ≡ true → b ≡ true) → (b ≡ true → a ≡ true) → a ≡ b
 both true b f g = sym (f refl)
@@ -23,9 +24,16 @@ named-comm a b =
 abbrev pub names : List (Quantity (List ℕ)) → List (List ℕ)
 names qs = map (λ q. q.key) qs
 
-row_names : (row : Row) → names (row_quantities row) ≡ quantities_of row
+names_of_columns : (name : List ℕ) (table : Table) (place : ℕ) (columns : List (List ℕ))
+    → names (column_quantities name table place columns) ≡ column_names name columns
+names_of_columns name table place [] = refl
+names_of_columns name table place (column ∷ columns) =
+    ap (λ ns. column_name name column ∷ ns) (names_of_columns name table (place + 1) columns)
+
+pub row_names : (row : Row) → names (row_quantities row) ≡ quantities_of row
 row_names (Given name estimate shape dof) = refl
 row_names (Readings name table) = refl
+row_names (Joint name columns table) = names_of_columns name table 0 columns
 row_names (Correlation name first second coefficient) = refl
 row_names (Formula name f) = refl
 

@@ -5,10 +5,10 @@ use Rattle.std.proofs.Common.{sym, ◌∙◌, ap, ap₂, subst, arith, length-ap
 use Rattle.std.proofs.lemmas.List.{append_assoc, append-nil, length-map, map-append}
 use Rattle.std.proofs.lemmas.List.Folds.{list_any-append, list_all-append}
 use Rattle.std.proofs.lemmas.Bool.{true≢false, and_parts, or_parts, and_from, not-true}
-use Rattle.sheet_rows.specs.Rows.{Row, Given, Readings, Correlation, Formula, Sheet, name_of, used_names, gives, correlated_names, correlates, is_correlatable}
+use Rattle.sheet_rows.specs.Rows.{Row, Given, Readings, Joint, Correlation, Formula, Sheet, name_of, used_names, gives, correlated_names, correlates, is_correlatable}
 use Rattle.sheet_edits.specs.Sheets.{IsWellFormed, row_limit, is_named, is_among, is_quantity_in, is_correlatable_in, repeated_name, are_correlatable, is_correlated_apart, are_apart, are_named_once, are_known, are_earlier, added, rows_with, set_row}
 use Rattle.sheet_edits.proofs.Conditions.{other_way, all_more, named_itself}
-use Rattle.sheet_edits.proofs.Verdicts.{quantity_named}
+use Rattle.sheet_edits.proofs.Verdicts.{quantity_any}
 use Rattle.sheet_edits.proofs.Adding.{add_complete}
 use Rattle.sheet_edits.proofs.Setting.{set_complete}
 use Rattle.answers.specs.declared.reply.Reply.TheVariants.{Fine}
@@ -66,30 +66,35 @@ set_here (first ∷ a) old row b e new =
 name-as_input : (row : Row) → name_of (as_input row) ≡ name_of row
 name-as_input (Given name estimate shape dof) = refl
 name-as_input (Readings name table) = refl
+name-as_input (Joint name columns table) = refl
 name-as_input (Correlation name first second coefficient) = refl
 name-as_input (Formula name formula) = refl
 
 known-as_input : (sheet : List Row) (row : Row) → are_known sheet (as_input row) ≡ true
 known-as_input sheet (Given name estimate shape dof) = refl
 known-as_input sheet (Readings name table) = refl
+known-as_input sheet (Joint name columns table) = refl
 known-as_input sheet (Correlation name first second coefficient) = refl
 known-as_input sheet (Formula name formula) = refl
 
 correlatable-as_input : (sheet : List Row) (row : Row) → are_correlatable sheet (as_input row) ≡ true
 correlatable-as_input sheet (Given name estimate shape dof) = refl
 correlatable-as_input sheet (Readings name table) = refl
+correlatable-as_input sheet (Joint name columns table) = refl
 correlatable-as_input sheet (Correlation name first second coefficient) = refl
 correlatable-as_input sheet (Formula name formula) = refl
 
 correlates-as_input : (row : Row) (n : List ℕ) → correlates (as_input row) n ≡ false
 correlates-as_input (Given name estimate shape dof) n = refl
 correlates-as_input (Readings name table) n = refl
+correlates-as_input (Joint name columns table) n = refl
 correlates-as_input (Correlation name first second coefficient) n = refl
 correlates-as_input (Formula name formula) n = refl
 
 apart-as_input : (sheet : List Row) (row : Row) → are_apart sheet (as_input row) ≡ true
 apart-as_input sheet (Given name estimate shape dof) = refl
 apart-as_input sheet (Readings name table) = refl
+apart-as_input sheet (Joint name columns table) = refl
 apart-as_input sheet (Correlation name first second coefficient) = refl
 apart-as_input sheet (Formula name formula) = refl
 
@@ -150,16 +155,18 @@ more-partly p h (row ∷ a) b e = by (p row) (more-partly p h a b) e where
   by true rest f = refl
   by false rest f = rest f
 
-given-as_input : (n : List ℕ) (row : Row) → (is_named n row && gives row n) ≡ true → (is_named n (as_input row) && gives (as_input row) n) ≡ true
+given-as_input : (n : List ℕ) (row : Row) → gives row n ≡ true → gives (as_input row) n ≡ true
 given-as_input n (Given name estimate shape dof) e = e
 given-as_input n (Readings name table) e = e
-given-as_input n (Correlation name first second coefficient) e = absurd (true≢false (sym (and_parts (bytes_eq n name) false e).1))
+given-as_input n (Joint name columns table) e = e
+given-as_input n (Correlation name first second coefficient) e = absurd (true≢false (sym e))
 given-as_input n (Formula name f) e = e
 
 correlatable-as_input-too : (n : List ℕ) (row : Row) → (is_named n row && is_correlatable row) ≡ true
     → (is_named n (as_input row) && is_correlatable (as_input row)) ≡ true
 correlatable-as_input-too n (Given name estimate shape dof) e = e
 correlatable-as_input-too n (Readings name table) e = e
+correlatable-as_input-too n (Joint name columns table) e = e
 correlatable-as_input-too n (Correlation name first second coefficient) e = absurd (true≢false (sym (and_parts (bytes_eq n name) false e).1))
 correlatable-as_input-too n (Formula name f) e = absurd (true≢false (sym (and_parts (bytes_eq n name) false e).1))
 
@@ -205,7 +212,7 @@ partly_well_formed a b h = record {
 
   still_quantity : (n : List ℕ) → is_quantity_in (a ++ b) n ≡ true → is_quantity_in partly n ≡ true
   still_quantity n e =
-      quantity_named partly n ∙ more-partly (λ row. is_named n row && gives row n) (given-as_input n) a b (sym (quantity_named (a ++ b) n) ∙ e)
+      quantity_any partly n ∙ more-partly (λ row. gives row n) (given-as_input n) a b (sym (quantity_any (a ++ b) n) ∙ e)
 
   still_correlatable : (row : Row) → are_correlatable (a ++ b) row ≡ true → are_correlatable partly row ≡ true
   still_correlatable row e =
@@ -291,6 +298,7 @@ users_lead done (row ∷ rest) h =
         → Lead (users_set (row ∷ rest)) (of_rows (done ++ map as_input (row ∷ rest))) (of_rows (done ++ row ∷ rest))
     by (Given name estimate shape dof) lead g = stays done rest (Given name estimate shape dof) lead
     by (Readings name table) lead g = stays done rest (Readings name table) lead
+    by (Joint name columns table) lead g = stays done rest (Joint name columns table) lead
     by (Correlation name first second coefficient) lead g = is_set done rest (Correlation name first second coefficient) g lead
     by (Formula name f) lead g = is_set done rest (Formula name f) g lead
 

@@ -7,12 +7,13 @@ use Rattle.std.proofs.lemmas.Bool.{and_parts, or_parts, and_from, not-true}
 use Rattle.formula_ast.specs.Trees.{uses}
 use Rattle.formula_ast.specs.Printing.{print}
 use Rattle.formula_ast.proofs.Exponents.{read_exponents}
-use Rattle.sheet_rows.specs.Rows.{Row, Given, Readings, Correlation, Formula, Sheet, name_of, quantities_of}
+use Rattle.sheet_rows.specs.Rows.{Row, Given, Readings, Joint, Correlation, Formula, Sheet, name_of}
 use Rattle.sheet_edits.specs.Sheets.{is_among, is_quantity_in, are_named_once, are_known, are_earlier}
 use Rattle.sheet_rows.specs.Regular.{IsRegular, AreRegular}
 use Rattle.sheet_edits.specs.Standing.{IsStanding}
 use Rattle.sheet_edits.proofs.Conditions.{other_way, all_none, list_all_agree}
-use Rattle.sheet_edits.proofs.Verdicts.{added_has, no_quantity}
+use Rattle.sheet_edits.proofs.Regular.{regular_added}
+use Rattle.sheet_edits.proofs.Verdicts.{added_has}
 use Rattle.value_cache.specs.Quantities.{is_there, first_unknown}
 use Rattle.value_cache.specs.Model.{AllHaveExponents}
 use Rattle.value_cache.specs.Evaluable.{IsEvaluable, Keeps}
@@ -22,28 +23,26 @@ use Rattle.value_cache.proofs.Evaluable.{evaluable_empty, evaluable-added}
 use Rattle.edit_session.specs.Replies.{row_quantities, quantities}
 use Rattle.edit_session.specs.Walks.{Quantities, KnowsUses, AreFresh, AllUseOnly, IsNext, Follow, IsWalked}
 use Rattle.edit_session.proofs.Names.{there-is_quantity}
+use Rattle.edit_session.proofs.Fresh.{fresh_by}
+use Rattle.edit_session.proofs.Columns.{known_columns, columns_have_exponents}
 
 -- ---- rows
 pub exponents_of_rows : (rows : List Row) → AreRegular rows → AllHaveExponents (flat_map row_quantities rows)
 exponents_of_rows [] h = tt
 exponents_of_rows (Given name estimate shape dof ∷ rows) h = (tt, exponents_of_rows rows h.1)
 exponents_of_rows (Readings name table ∷ rows) h = (tt, exponents_of_rows rows h.1)
+exponents_of_rows (Joint name columns table ∷ rows) h =
+    columns_have_exponents name table 0 columns (flat_map row_quantities rows) (exponents_of_rows rows h.1)
 exponents_of_rows (Correlation name first second coefficient ∷ rows) h = exponents_of_rows rows h.1
 exponents_of_rows (Formula name f ∷ rows) h = (read_exponents (print f) f h.0.1, exponents_of_rows rows h.1)
-
--- a row with a new name has quantities with new names
-fresh_by : (before : List Row) (row : Row) → is_among before (name_of row) ≡ false
-    → AreFresh (flat_map row_quantities before) (row_quantities row)
-fresh_by before (Given name estimate shape dof) e = (there-is_quantity before name ∙ no_quantity before name e, tt)
-fresh_by before (Readings name table) e = (there-is_quantity before name ∙ no_quantity before name e, tt)
-fresh_by before (Correlation name first second coefficient) e = tt
-fresh_by before (Formula name f) e = (there-is_quantity before name ∙ no_quantity before name e, tt)
 
 -- a regular row whose names are known uses quantities that are there, and its readings are taken
 known_by : (before : List Row) (row : Row) → IsRegular row → are_known before row ≡ true → AllUseOnly (flat_map row_quantities before) (row_quantities row)
 known_by before (Given name estimate shape dof) regular e = (record { known = refl; column = tt }, tt)
 known_by before (Readings name table) regular e =
     (record { known = refl; column = record { taken = regular.3; there = omega (arith, regular.2) } }, tt)
+known_by before (Joint name columns table) regular e =
+    known_columns (flat_map row_quantities before) name table 0 columns regular.4 (omega (arith, regular.3))
 known_by before (Correlation name first second coefficient) regular e = tt
 known_by before (Formula name f) regular e = (
   uses_names (flat_map row_quantities before) f
@@ -68,12 +67,12 @@ apart_added before row (next ∷ rest) e f =
     (apart_added before row rest (and_parts (not (is_among before (name_of next))) (are_apart before rest) e).1 (or_parts (bytes_eq (name_of row) (name_of next)) (is_among rest (name_of row)) f).1)
 
 follow : (before rest : List Row) → are_apart before rest ≡ true → are_named_once rest ≡ true → are_earlier before rest ≡ true
-    → AreRegular rest → Follow before rest
-follow before [] apart once earlier regular = tt
-follow before (row ∷ rest) apart once earlier regular = (
+    → AreRegular before → AreRegular rest → Follow before rest
+follow before [] apart once earlier all regular = tt
+follow before (row ∷ rest) apart once earlier all regular = (
   record {
     fresh =
-        fresh_by before row
+        fresh_by before row all regular.0
         (not-true (is_among before (name_of row)) (and_parts (not (is_among before (name_of row))) (are_apart before rest) apart).0);
     known = known_by before row regular.0 (and_parts (are_known before row) (are_earlier (before ++ row ∷ []) rest) earlier).0;
     regular = regular.0;
@@ -83,7 +82,7 @@ follow before (row ∷ rest) apart once earlier regular = (
       (not-true (is_among rest (name_of row)) (and_parts (not (is_among rest (name_of row))) (are_named_once rest) once).0))
       (and_parts (not (is_among rest (name_of row))) (are_named_once rest) once).1
       (and_parts (are_known before row) (are_earlier (before ++ row ∷ []) rest) earlier).1
-      regular.1,
+      (regular_added before row all regular.0) regular.1,
 )
 
 none_before : (rows : List Row) → are_apart [] rows ≡ true
@@ -91,7 +90,7 @@ none_before [] = refl
 none_before (row ∷ rows) = none_before rows
 
 pub rows_follow : (sheet : Sheet) → IsStanding sheet → Follow [] sheet.rows
-rows_follow sheet h = follow [] sheet.rows (none_before sheet.rows) h.well_formed.once h.well_formed.earlier h.regular
+rows_follow sheet h = follow [] sheet.rows (none_before sheet.rows) h.well_formed.once h.well_formed.earlier tt h.regular
 
 -- ---- the quantities of a sheet can be evaluated
 more_evaluable : (qs more : Quantities) → IsEvaluable bytes_eq qs → AreFresh qs more → AllUseOnly qs more → IsEvaluable bytes_eq (qs ++ more)
@@ -121,6 +120,7 @@ pub knows_uses : (before : List Row) (row : Row) (cells : Cells) → Keeps bytes
     → KnowsUses cells row
 knows_uses before (Given name estimate shape dof) cells keeps next = tt
 knows_uses before (Readings name table) cells keeps next = tt
+knows_uses before (Joint name columns table) cells keeps next = tt
 knows_uses before (Correlation name first second coefficient) cells keeps next = tt
 knows_uses before (Formula name f) cells keeps next =
     unknown_same (flat_map row_quantities before) cells keeps f

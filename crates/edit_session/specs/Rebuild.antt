@@ -3,7 +3,7 @@ use Rattle.std.specs.Prelude.{◌≡◌, List, [], ◌∷◌, ◌++◌, map}
 use Rattle.fixed_interval.specs.Rules.{zero_bound}
 use Rattle.type_b.specs.declared.shape.Shape.TheVariants.{Exact}
 use Rattle.type_b.specs.declared.shape.Dof.TheVariants.{Inf}
-use Rattle.sheet_rows.specs.Rows.{Row, Given, Readings, Correlation, Formula, Sheet}
+use Rattle.sheet_rows.specs.Rows.{Row, Given, Readings, Joint, Correlation, Formula, Sheet}
 use Rattle.answers.specs.declared.command.Query.{Query}
 use Rattle.answers.specs.declared.reply.Reply.TheVariants.{Fine}
 use Rattle.answers.specs.Commands.{Command, Change, Add, Set, Ask}
@@ -14,6 +14,7 @@ use Rattle.edit_session.specs.Machine.{State, initial, step}
 abbrev pub as_input : Row → Row
 as_input (Given name estimate shape dof) = Given name estimate shape dof
 as_input (Readings name table) = Readings name table
+as_input (Joint name columns table) = Joint name columns table
 as_input (Correlation name first second coefficient) = Given name zero_bound Exact Inf
 as_input (Formula name formula) = Given name zero_bound Exact Inf
 
@@ -24,6 +25,7 @@ abbrev pub users_set : List Row → List Command
 users_set [] = []
 users_set (Given name estimate shape dof ∷ rows) = users_set rows
 users_set (Readings name table ∷ rows) = users_set rows
+users_set (Joint name columns table ∷ rows) = users_set rows
 users_set (Correlation name first second coefficient ∷ rows) = Change (Set (Correlation name first second coefficient)) ∷ users_set rows
 users_set (Formula name formula ∷ rows) = Change (Set (Formula name formula)) ∷ users_set rows
 

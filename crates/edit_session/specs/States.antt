@@ -1,5 +1,5 @@
 -- What the code's session is: the state of the machine.
-use Rattle.std.specs.Prelude.{◌≡◌, ℕ, List, reverse, refl}
+use Rattle.std.specs.Prelude.{◌≡◌, List, reverse, refl}
 use Rattle.std.specs.Coded.{Coded, code_by, coded×, coded_list, coded_ℕ}
 use Rattle.sheet_rows.specs.Rows.{Sheet}
 use Rattle.sheet_rows.specs.Codes.{coded_sheet}

@@ -1,4 +1,4 @@
-use Rattle.std.proofs.Common.{sym, subst, ap}
+use Rattle.std.proofs.Common.{sym, subst}
 use Rattle.formula_ast.specs.Trees.{HasExponents}
 use Rattle.formula_ast.specs.Views.{tree_of}
 use Rattle.formula_ast.specs.Printing.{print}
