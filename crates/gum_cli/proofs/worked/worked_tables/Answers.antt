@@ -18,24 +18,23 @@ use Rattle.formula_ast.specs.Reading.{reading_of}
 use Rattle.formula_box.specs.Values.{span_of}
 use Rattle.table_records.specs.Tables.{records_read}
 use Rattle.row_text.specs.Reading.{row_read}
-use Rattle.row_text.specs.Tables.{table_read}
 use Rattle.value_cache.specs.Evaluations.{evaluation_of}
 use Rattle.script_lines.specs.Blocks.{opens_block, ends_block}
-use Rattle.script_lines.specs.Commands.{line_read}
+use Rattle.script_lines.specs.Commands.{line_read, block_read}
 use Rattle.gum_cli.proofs.worked.worked_tables.Goals as goal
 
 pub returns-clause-means : goal.returns-clause-means
-unfolding csv_on_literals records_read table_read digits opens_block ends_block line_read row_read reading_of parsed refusal span_of evaluation_of outward quotient power_span holds_zero total below mean min_ℚ max_ℚ up down cut_off is_in_range value_of ◌+ℚ◌ ◌*ℚ◌ inv_ℚ neg_ℚ is_at_most_ℚ floor_ℚ floor is_at_most inverse ◌⊕◌ ◌⊗◌ fraction.negated /_rec₂ /_rec
+unfolding csv_on_literals records_read block_read digits opens_block ends_block line_read row_read reading_of parsed refusal span_of evaluation_of outward quotient power_span holds_zero total below mean min_ℚ max_ℚ up down cut_off is_in_range value_of ◌+ℚ◌ ◌*ℚ◌ inv_ℚ neg_ℚ is_at_most_ℚ floor_ℚ floor is_at_most inverse ◌⊕◌ ◌⊗◌ fraction.negated /_rec₂ /_rec
 returns-clause-means c = refl
 
 pub returns-clause-dumped : goal.returns-clause-dumped
-unfolding csv_on_literals records_read table_read digits opens_block ends_block line_read row_read reading_of parsed refusal span_of evaluation_of outward quotient power_span holds_zero total below mean min_ℚ max_ℚ up down cut_off is_in_range value_of ◌+ℚ◌ ◌*ℚ◌ inv_ℚ neg_ℚ is_at_most_ℚ floor_ℚ floor is_at_most inverse ◌⊕◌ ◌⊗◌ fraction.negated /_rec₂ /_rec
+unfolding csv_on_literals records_read block_read digits opens_block ends_block line_read row_read reading_of parsed refusal span_of evaluation_of outward quotient power_span holds_zero total below mean min_ℚ max_ℚ up down cut_off is_in_range value_of ◌+ℚ◌ ◌*ℚ◌ inv_ℚ neg_ℚ is_at_most_ℚ floor_ℚ floor is_at_most inverse ◌⊕◌ ◌⊗◌ fraction.negated /_rec₂ /_rec
 returns-clause-dumped c = refl
 
 pub returns-clause-refused : goal.returns-clause-refused
-unfolding csv_on_literals records_read table_read digits opens_block ends_block line_read row_read reading_of parsed refusal span_of evaluation_of outward quotient power_span holds_zero total below mean min_ℚ max_ℚ up down cut_off is_in_range value_of ◌+ℚ◌ ◌*ℚ◌ inv_ℚ neg_ℚ is_at_most_ℚ floor_ℚ floor is_at_most inverse ◌⊕◌ ◌⊗◌ fraction.negated /_rec₂ /_rec
+unfolding csv_on_literals records_read block_read digits opens_block ends_block line_read row_read reading_of parsed refusal span_of evaluation_of outward quotient power_span holds_zero total below mean min_ℚ max_ℚ up down cut_off is_in_range value_of ◌+ℚ◌ ◌*ℚ◌ inv_ℚ neg_ℚ is_at_most_ℚ floor_ℚ floor is_at_most inverse ◌⊕◌ ◌⊗◌ fraction.negated /_rec₂ /_rec
 returns-clause-refused c = refl
 
 pub returns-clause-used : goal.returns-clause-used
-unfolding csv_on_literals records_read table_read digits opens_block ends_block line_read row_read reading_of parsed refusal span_of evaluation_of outward quotient power_span holds_zero total below mean min_ℚ max_ℚ up down cut_off is_in_range value_of ◌+ℚ◌ ◌*ℚ◌ inv_ℚ neg_ℚ is_at_most_ℚ floor_ℚ floor is_at_most inverse ◌⊕◌ ◌⊗◌ fraction.negated /_rec₂ /_rec
+unfolding csv_on_literals records_read block_read digits opens_block ends_block line_read row_read reading_of parsed refusal span_of evaluation_of outward quotient power_span holds_zero total below mean min_ℚ max_ℚ up down cut_off is_in_range value_of ◌+ℚ◌ ◌*ℚ◌ inv_ℚ neg_ℚ is_at_most_ℚ floor_ℚ floor is_at_most inverse ◌⊕◌ ◌⊗◌ fraction.negated /_rec₂ /_rec
 returns-clause-used c = refl
