@@ -1,9 +1,11 @@
 -- The groups of a sheet that stands part its inputs, and are sound.
-use Rattle.std.specs.Prelude.{◌≡◌, ℕ, ◌+◌, ◌^◌, ◌≤◌, Bool, true, false, ◌&&◌, ◌||◌, not, is_some, nat_le, if◌then◌else◌, List, [], ◌∷◌, ◌++◌, map, Ok, ℤ, pos, negsuc, ◌*ℤ◌, ◌≤ℤ◌, unsigned_abs, bytes_eq, refl}
+use Rattle.std.specs.Prelude.{◌≡◌, ℕ, ◌^◌, ◌≤◌, Bool, true, false, ◌&&◌, ◌||◌, not, is_some, if◌then◌else◌, List, [], ◌∷◌, ◌++◌, map, Ok, ℤ, pos, negsuc, ◌*ℤ◌, ◌≤ℤ◌, unsigned_abs, bytes_eq, refl}
 use Rattle.std.specs.List.{list_any, list_all, flat_map}
-use Rattle.std.proofs.Common.{sym, ap, subst, ◌∙◌, arith}
+use Rattle.std.proofs.Common.{sym, ap, ◌∙◌, arith}
 use Rattle.std.proofs.lemmas.Bool.{true≢false, and_parts, leb-true}
 use Rattle.std.proofs.lemmas.Int.{ints}
+use Rattle.std.proofs.lemmas.List.{length-map}
+use Rattle.std.proofs.lemmas.List.Folds.{list_any-append}
 use Rattle.exact_fraction.specs.Number.{of_ℤ, neg_ℚ, ◌≤ℚ◌}
 use Rattle.exact_fraction.specs.NumberLaws.{≤ℚ_trans, ≤ℚ_same, of_ℤ-neg}
 use Rattle.decimal18.specs.Bound.{Bound, scaled, value_of}
@@ -12,80 +14,77 @@ use Rattle.exact_law.specs.Law.{stand_in, AllGroups, IsSoundFor, PartTheInputs, 
 use Rattle.type_b.specs.declared.shape.Shape.{Shape}
 use Rattle.type_b.specs.Shapes.{checked}
 use Rattle.type_b.specs.Variances.{states_deviation}
-use Rattle.sheet_rows.specs.Rows.{Row, Given, Readings, Correlation, Formula, Sheet, name_of, is_correlatable, are_infinite}
+use Rattle.sheet_rows.specs.Rows.{Row, Given, Readings, Joint, Correlation, Formula, Sheet, name_of, column_name, correlated_names, correlates, is_correlatable, are_infinite}
 use Rattle.sheet_rows.specs.Regular.{AreRegular, is_coefficient}
 use Rattle.sheet_edits.specs.Sheets.{is_named, is_among, are_named_once, is_correlatable_in, repeated_name, are_correlatable}
 use Rattle.sheet_edits.specs.Standing.{IsStanding}
-use Rattle.sheet_edits.proofs.Conditions.{named_itself, same_name}
+use Rattle.sheet_edits.proofs.Conditions.{same_name}
 use Rattle.sheet_edits.proofs.Named.{once_head, once_tail, has_none}
 use Rattle.covariance.specs.Groups.{Group, exact_group}
-use Rattle.covariance.specs.Groups.{AreRegular as GroupsAreRegular, IsRegular as GroupIsRegular, Pair, Single}
+use Rattle.covariance.specs.Groups.{AreRegular as GroupsAreRegular, IsRegular as GroupIsRegular, Single}
 use Rattle.covariance.proofs.Exact.{regular-sound}
 use Rattle.sheet_groups.specs.Groups.{inputs, is_correlated, shape_of_row, shape_in, row_groups, groups, exact_groups}
-use Rattle.sheet_groups.proofs.Counts.{count, stand_more, stand_none, stand_parts}
-use Rattle.sheet_groups.proofs.Members.{is_input, is_in, input_name, inputs_are, member_names, members_are, one_input, one_member, correlatable_is_input}
+use Rattle.sheet_groups.proofs.Counts.{count, later, stand_each, stand_none, stand_parts}
+use Rattle.sheet_groups.proofs.Members.{is_input_of, is_in, input_names, inputs_are, own_names, member_names, members_are, holds_of_all, one_input, one_member, correlatable_is_input}
 
 -- ---- each input is a member once
-later : (a b : Bool) → b ≡ true → (a || b) ≡ true
-later true b e = refl
-later false b e = e
-
-itself : (name : List ℕ) (xs : List Row) → ((bytes_eq name name && true) || is_in xs name) ≡ true
-itself name xs = ap (λ b. (b && true) || is_in xs name) (named_itself name)
+earlier : (a b : Bool) → a ≡ true → (a || b) ≡ true
+earlier true b e = refl
+earlier false b e = absurd (true≢false (sym e))
 
 inputs_stand : (members : List (List ℕ)) (xs : List Row) → ((n : List ℕ) → is_in xs n ≡ true → count n members ≡ 1)
-    → stand_in bytes_eq members (flat_map input_name xs) ≡ true
+    → stand_in bytes_eq members (flat_map input_names xs) ≡ true
 inputs_stand members [] h = stand_none members
-inputs_stand members (Given name estimate shape dof ∷ xs) h =
-    stand_more members name (flat_map input_name xs) (h name (itself name xs))
-    (inputs_stand members xs (λ n e. h n (later (bytes_eq n name && true) (is_in xs n) e)))
-inputs_stand members (Readings name table ∷ xs) h =
-    stand_more members name (flat_map input_name xs) (h name (itself name xs))
-    (inputs_stand members xs (λ n e. h n (later (bytes_eq n name && true) (is_in xs n) e)))
-inputs_stand members (Correlation name first second coefficient ∷ xs) h =
-    inputs_stand members xs (λ n e. h n (later (bytes_eq n name && false) (is_in xs n) e))
-inputs_stand members (Formula name f ∷ xs) h =
-    inputs_stand members xs (λ n e. h n (later (bytes_eq n name && false) (is_in xs n) e))
+inputs_stand members (x ∷ xs) h =
+    stand_each members (input_names x) (flat_map input_names xs) (λ n e. h n (earlier (is_input_of n x) (is_in xs n) e))
+    (inputs_stand members xs (λ n e. h n (later (is_input_of n x) (is_in xs n) e)))
 
 -- ---- each member is an input once
-own_stands : (ns : List (List ℕ)) (t : Bool) (name : List ℕ) (ms : List (List ℕ)) → count name ns ≡ 1 → stand_in bytes_eq ns ms ≡ true
-    → stand_in bytes_eq ns (((if t then [] else name ∷ []) ++ []) ++ ms) ≡ true
-own_stands ns true name ms e h = h
-own_stands ns false name ms e h = stand_more ns name ms e h
+own_by : (t : Bool) (n name : List ℕ) → list_any (bytes_eq n) (if t then [] else name ∷ []) ≡ true → (bytes_eq n name || false) ≡ true
+own_by true n name e = absurd (true≢false (sym e))
+own_by false n name e = e
+
+own_input : (rows : List Row) (n : List ℕ) (row : Row) → list_any (bytes_eq n) (own_names rows row) ≡ true → is_input_of n row ≡ true
+own_input rows n (Given name estimate shape dof) e = own_by (is_correlated rows name) n name e
+own_input rows n (Readings name table) e = e
+own_input rows n (Joint name columns table) e = e
+own_input rows n (Correlation name first second coefficient) e = e
+own_input rows n (Formula name f) e = e
+
+-- a member that a row puts into a group is an input of the row, or one that may be correlated
+member_by : (rows : List Row) (row : Row) (n : List ℕ) (P : Type 0) → are_correlatable rows row ≡ true → (is_input_of n row ≡ true → P)
+    → (is_correlatable_in rows n ≡ true → P) → list_any (bytes_eq n) (member_names rows row) ≡ true → P
+member_by rows row n P may own pair e = by (list_any (bytes_eq n) (own_names rows row)) refl where
+  by : (t : Bool) → list_any (bytes_eq n) (own_names rows row) ≡ t → P
+  by true g = own (own_input rows n row g)
+  by false g =
+      let names = and_parts (list_all (is_correlatable_in rows) (correlated_names row)) (not (is_some (repeated_name row))) may in
+      pair
+      (holds_of_all (is_correlatable_in rows) n (correlated_names row) names.0
+      (sym (ap (λ b. b || correlates row n) g) ∙ sym (list_any-append (bytes_eq n) (own_names rows row) (correlated_names row)) ∙ e))
 
 members_stand : (rows : List Row) (ns : List (List ℕ)) (xs : List Row) → ((n : List ℕ) → is_in xs n ≡ true → count n ns ≡ 1)
     → ((n : List ℕ) → is_correlatable_in rows n ≡ true → count n ns ≡ 1) → list_all (are_correlatable rows) xs ≡ true
     → stand_in bytes_eq ns (flat_map (member_names rows) xs) ≡ true
 members_stand rows ns [] h k c = stand_none ns
-members_stand rows ns (Given name estimate shape dof ∷ xs) h k c =
-    own_stands ns (is_correlated rows name) name (flat_map (member_names rows) xs) (h name (itself name xs))
-    (members_stand rows ns xs (λ n e. h n (later (bytes_eq n name && true) (is_in xs n) e)) k c)
-members_stand rows ns (Readings name table ∷ xs) h k c =
-    stand_more ns name (flat_map (member_names rows) xs) (h name (itself name xs))
-    (members_stand rows ns xs (λ n e. h n (later (bytes_eq n name && true) (is_in xs n) e)) k c)
-members_stand rows ns (Correlation name first second coefficient ∷ xs) h k c =
-    let row : Row = Correlation name first second coefficient in
-    let both = and_parts (are_correlatable rows row) (list_all (are_correlatable rows) xs) c in
-    let names = and_parts (is_correlatable_in rows first && (is_correlatable_in rows second && true)) (not (is_some (repeated_name row))) both.0 in
-    let each = and_parts (is_correlatable_in rows first) (is_correlatable_in rows second && true) names.0 in
-    stand_more ns first (second ∷ flat_map (member_names rows) xs) (k first each.0)
-    (stand_more ns second (flat_map (member_names rows) xs) (k second (and_parts (is_correlatable_in rows second) true each.1).0)
-    (members_stand rows ns xs (λ n e. h n (later (bytes_eq n name && false) (is_in xs n) e)) k both.1))
-members_stand rows ns (Formula name f ∷ xs) h k c =
-    members_stand rows ns xs (λ n e. h n (later (bytes_eq n name && false) (is_in xs n) e)) k c
+members_stand rows ns (x ∷ xs) h k c =
+    let both = and_parts (are_correlatable rows x) (list_all (are_correlatable rows) xs) c in
+    stand_each ns (member_names rows x) (flat_map (member_names rows) xs)
+    (λ n. member_by rows x n (count n ns ≡ 1) both.0 (λ e. h n (earlier (is_input_of n x) (is_in xs n) e)) (k n))
+    (members_stand rows ns xs (λ n e. h n (later (is_input_of n x) (is_in xs n) e)) k both.1)
 
 pub parted : (sheet : Sheet) → IsStanding sheet → PartTheInputs bytes_eq (inputs sheet) (exact_groups sheet)
 parted sheet h = record {
   inputs_in_groups = rw (inputs_are sheet.rows, members_are sheet.rows sheet.rows) (inputs_stand (flat_map (member_names sheet.rows) sheet.rows) sheet.rows members_once);
   members_in_inputs =
       rw (inputs_are sheet.rows, members_are sheet.rows sheet.rows)
-      (members_stand sheet.rows (flat_map input_name sheet.rows) sheet.rows inputs_once (λ n e. inputs_once n (correlatable_is_input n sheet.rows e)) h.well_formed.correlatable);
+      (members_stand sheet.rows (flat_map input_names sheet.rows) sheet.rows inputs_once (λ n e. inputs_once n (correlatable_is_input n sheet.rows e)) h.well_formed.correlatable);
 } where
   members_once : (n : List ℕ) → is_in sheet.rows n ≡ true → count n (flat_map (member_names sheet.rows) sheet.rows) ≡ 1
-  members_once n e = one_member sheet.rows h.well_formed.once h.well_formed.correlatable h.well_formed.apart n e
+  members_once n e = one_member sheet.rows h.regular h.well_formed.once h.well_formed.correlatable h.well_formed.apart n e
 
-  inputs_once : (n : List ℕ) → is_in sheet.rows n ≡ true → count n (flat_map input_name sheet.rows) ≡ 1
-  inputs_once n e = one_input n sheet.rows h.well_formed.once e
+  inputs_once : (n : List ℕ) → is_in sheet.rows n ≡ true → count n (flat_map input_names sheet.rows) ≡ 1
+  inputs_once n e = one_input n sheet.rows h.regular h.well_formed.once e
 
 -- ---- regular groups
 abbrev States : Shape → Type 0
@@ -96,6 +95,7 @@ stated_by : (n : List ℕ) (x : Row) (xs : List Row) (t u : Bool) → is_named n
     → States (if t then shape_of_row x else shape_in xs n)
 stated_by n (Given name estimate shape dof) xs true true e f new h g rest = (h.0.3, (and_parts (states_deviation shape) (are_infinite dof) f).0)
 stated_by n (Readings name table) xs true true e f new h g rest = absurd (true≢false (sym f))
+stated_by n (Joint name columns table) xs true true e f new h g rest = absurd (true≢false (sym f))
 stated_by n (Correlation name first second coefficient) xs true true e f new h g rest = absurd (true≢false (sym f))
 stated_by n (Formula name k) xs true true e f new h g rest = absurd (true≢false (sym f))
 stated_by n x xs true false e f new h g rest =
@@ -138,6 +138,8 @@ groups_regular rows [] once regular c h = tt
 groups_regular rows (Given name estimate shape dof ∷ xs) once regular c h =
     alone_regular (is_correlated rows name) name (Single name shape dof) (flat_map (row_groups rows) xs) h.0.3 (groups_regular rows xs once regular c h.1)
 groups_regular rows (Readings name table ∷ xs) once regular c h = (sym h.0.2, groups_regular rows xs once regular c h.1)
+groups_regular rows (Joint name columns table ∷ xs) once regular c h =
+    (length-map columns (column_name name) ∙ sym h.0.3, groups_regular rows xs once regular c h.1)
 groups_regular rows (Correlation name first second r ∷ xs) once regular c h =
     let row : Row = Correlation name first second r in
     let both = and_parts (are_correlatable rows row) (list_all (are_correlatable rows) xs) c in

@@ -6,7 +6,7 @@ use Rattle.exact_law.specs.Law as law
 use Rattle.exact_law.specs.Law.{inputs_of}
 use Rattle.type_b.specs.declared.shape.Shape.{Shape}
 use Rattle.type_b.specs.declared.shape.Shape.TheVariants.{Exact}
-use Rattle.sheet_rows.specs.Rows.{Row, Given, Readings, Correlation, Formula, Sheet, correlates}
+use Rattle.sheet_rows.specs.Rows.{Row, Given, Readings, Joint, Correlation, Formula, Sheet, column_names, correlates}
 use Rattle.sheet_edits.specs.Sheets.{is_named}
 use Rattle.value_cache.specs.Model.{model_of}
 use Rattle.covariance.specs.Groups.{Group, Single, Pair, Columns, exact_group}
@@ -24,6 +24,7 @@ is_correlated rows n = list_any (λ row. correlates row n) rows
 abbrev pub shape_of_row : Row → Shape
 shape_of_row (Given name estimate shape dof) = shape
 shape_of_row (Readings name table) = Exact
+shape_of_row (Joint name columns table) = Exact
 shape_of_row (Correlation name first second coefficient) = Exact
 shape_of_row (Formula name formula) = Exact
 
@@ -31,10 +32,12 @@ abbrev pub shape_in : List Row → List ℕ → Shape
 shape_in [] n = Exact
 shape_in (row ∷ rows) n = if is_named n row then shape_of_row row else shape_in rows n
 
--- the group of a row, if it has one: an input alone that no row correlates, readings, or the two inputs of a correlation
+-- the group of a row, if it has one: an input alone that no row correlates, readings, the columns of a table, or the two
+-- inputs of a correlation
 abbrev pub row_groups : List Row → Row → List (Group (List ℕ))
 row_groups rows (Given name estimate shape dof) = if is_correlated rows name then [] else Single name shape dof ∷ []
 row_groups rows (Readings name table) = Columns (name ∷ []) table ∷ []
+row_groups rows (Joint name columns table) = Columns (column_names name columns) table ∷ []
 row_groups rows (Correlation name first second coefficient) =
     Pair first (shape_in rows first) second (shape_in rows second) coefficient ∷ []
 row_groups rows (Formula name formula) = []

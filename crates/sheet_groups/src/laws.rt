@@ -1,7 +1,7 @@
 //! What holds of the groups of a sheet. Each function has an empty body, and its clauses are a theorem on the
 //! definitions.
 
-ghost use Rattle.std.specs.Prelude.{◌≡◌, bytes_eq, [], ◌∷◌, pos};
+ghost use Rattle.std.specs.Prelude.{◌≡◌, bytes_eq, codes, [], ◌∷◌, pos};
 ghost use Rattle.exact_law.specs.Law.{AllGroups, IsSoundFor, PartTheInputs};
 ghost use Rattle.decimal18.specs.Bound.{scaled};
 ghost use Rattle.type_b.specs.declared.shape.Shape.TheVariants.{Std, Rect};
@@ -22,12 +22,14 @@ pub fn groups_part_the_inputs()
     ensures sound { (sheet : Sheet) → IsStanding sheet → AllGroups (IsSoundFor bytes_eq (inputs sheet)) (exact_groups sheet) }
 {}
 
-/// The groups of a sheet with the inputs A, B and C, of which P correlates A and C, and with readings of D: a group for B,
-/// one for D, and one for the pair. The formula Y has none.
+/// The groups of a sheet with the inputs A, B and C, of which P correlates A and C, with readings of D, and with the
+/// joint readings T of K and L: a group for B, one for D, one for the columns of T, and one for the pair. The formula Y
+/// has none.
 pub fn worked_groups()
-    ensures inputs { inputs mixed ≡ named 65 ∷ named 66 ∷ named 67 ∷ named 68 ∷ [] }
+    ensures inputs { inputs mixed ≡ named 65 ∷ named 66 ∷ named 67 ∷ named 68 ∷ codes "T.K" ∷ codes "T.L" ∷ [] }
     ensures groups { groups mixed
         ≡ Single (named 66) (Rect (whole 1)) Inf
         ∷ Columns (named 68 ∷ []) ((whole 1 ∷ []) ∷ (whole 2 ∷ []) ∷ [])
+        ∷ Columns (codes "T.K" ∷ codes "T.L" ∷ []) ((whole 1 ∷ whole 1 ∷ []) ∷ (whole 2 ∷ whole 2 ∷ []) ∷ [])
         ∷ Pair (named 65) (Std (whole 1)) (named 67) (Std (whole 2)) (scaled (pos 5) 1) ∷ [] }
 {}
