@@ -1,5 +1,6 @@
 pub mod LineParts
 pub mod ItemSteps
 pub mod LineAnswers
+pub mod BlockAnswers
 pub mod RegularLines
 pub mod NoMemory

@@ -8,7 +8,8 @@ use Rattle.row_text.specs.Parts.{Read as ReadRow}
 use Rattle.row_text.specs.Reading.{row_at}
 use Rattle.sheet_rows.specs.declared.fault.RowFault.{RowFault}
 use Rattle.sheet_rows.specs.declared.fault.RowFault.TheVariants.{OutOfMemory as RowMemory}
-use Rattle.row_text.proofs.NoMemory.{row_never}
+use Rattle.row_text.specs.Tables.{table_at}
+use Rattle.row_text.proofs.NoMemory.{row_never, table_never}
 use Rattle.answers.specs.Commands.{Add, Set, Remove, Change, Undo, Redo, Mark, Restore, Ask, AskAt}
 use Rattle.answers.specs.declared.command.Query.{Query}
 use Rattle.answers.specs.declared.command.Query.TheVariants.{Value, Dump}
@@ -18,7 +19,7 @@ use Rattle.script_lines.specs.declared.item.Item.{Item}
 use Rattle.script_lines.specs.declared.item.Item.TheVariants.{Line, Block, LongLine, LongTable, UnclosedTable}
 use Rattle.script_lines.specs.declared.verb.Verb.{Verb}
 use Rattle.script_lines.specs.declared.verb.Verb.TheVariants.{Set as SetVerb, Remove as RemoveVerb, Undo as UndoVerb, Redo as RedoVerb, Mark as MarkVerb, Restore as RestoreVerb, At as AtVerb, Ask as AskVerb, Row as RowVerb}
-use Rattle.script_lines.specs.Commands.{Read, mapped, alone, no_more, sole_name, is_other_query, value_query, query_with, query_of, query_at, verb_of, row_of_line, command_with, line_with, line_read, command_read}
+use Rattle.script_lines.specs.Commands.{Read, mapped, alone, no_more, sole_name, is_other_query, value_query, query_with, query_of, query_at, verb_of, row_of_line, adding, setting, command_with, line_with, line_read, block_with, block_read, command_read}
 
 abbrev IsNoMemory : LineFault → Type 0
 IsNoMemory OutOfMemory = ⊥
@@ -81,8 +82,14 @@ row_failed : (r : ReadRow Row) → r ≢ Err RowMemory → IfFailed (row_of_line
 row_failed (Ok row) h = tt
 row_failed (Err fault) h = λ e. h (subst (λ (f : RowFault). let r : ReadRow Row = Err f in Err fault ≡ r) e refl)
 
+adding_failed : (r : ReadRow Row) → r ≢ Err RowMemory → IfFailed (adding r)
+adding_failed r h = mapped_failed (λ row. Change (Add row)) (row_of_line r) (row_failed r h)
+
+setting_failed : (r : ReadRow Row) → r ≢ Err RowMemory → IfFailed (setting r)
+setting_failed r h = mapped_failed (λ row. Change (Set row)) (row_of_line r) (row_failed r h)
+
 command_failed : (verb : Verb) (text : List ℕ) (w : Word) (ws : List Word) → IfFailed (command_with verb text w ws)
-command_failed SetVerb text w ws = mapped_failed (λ row. Change (Set row)) (row_of_line (row_at text ws)) (row_failed (row_at text ws) (row_never text ws))
+command_failed SetVerb text w ws = setting_failed (row_at text ws) (row_never text ws)
 command_failed RemoveVerb text w ws = mapped_failed (λ name. Change (Remove name)) (sole_name (length text) ws) (name_failed (length text) ws)
 command_failed UndoVerb text w ws = mapped_failed (λ done. Undo) (no_more ws) (alone_failed tt ws)
 command_failed RedoVerb text w ws = mapped_failed (λ done. Redo) (no_more ws) (alone_failed tt ws)
@@ -90,17 +97,23 @@ command_failed MarkVerb text w ws = mapped_failed Mark (sole_name (length text) 
 command_failed RestoreVerb text w ws = mapped_failed Restore (sole_name (length text) ws) (name_failed (length text) ws)
 command_failed AtVerb text w ws = mapped_failed (λ asked. AskAt asked.0 asked.1) (query_at (length text) ws) (query_at_failed (length text) ws)
 command_failed AskVerb text w ws = mapped_failed Ask (query_with (length text) w ws) (query_failed (length text) w ws)
-command_failed RowVerb text w ws =
-    mapped_failed (λ row. Change (Add row)) (row_of_line (row_at text (w ∷ ws))) (row_failed (row_at text (w ∷ ws)) (row_never text (w ∷ ws)))
+command_failed RowVerb text w ws = adding_failed (row_at text (w ∷ ws)) (row_never text (w ∷ ws))
+
+block_failed : (text : List ℕ) (ws : List Word) (body : List ℕ) → IfFailed (block_with text ws body)
+block_failed text [] body = adding_failed (table_at text [] body) (table_never text [] body)
+block_failed text (w ∷ ws) body =
+    cond_failed (bytes_eq w.text (codes "set")) (setting (table_at text ws body)) (adding (table_at text (w ∷ ws) body))
+    (setting_failed (table_at text ws body) (table_never text ws body)) (adding_failed (table_at text (w ∷ ws) body) (table_never text (w ∷ ws) body))
 
 line_failed : (text : List ℕ) (ws : List Word) → IfFailed (line_with text ws)
 line_failed text [] = tt
 line_failed text (w ∷ ws) = mapped_failed Some (command_with (verb_of w.text) text w ws) (command_failed (verb_of w.text) text w ws)
 
 item_failed : (item : Item) → IfFailed (command_read item)
-unfolding line_read
+unfolding line_read block_read
 item_failed (Line line) = line_failed (written_part line) (words_from (written_part line) 0)
-item_failed (Block head body) = λ e. cc
+item_failed (Block head body) =
+    mapped_failed Some (block_read head body) (block_failed (written_part head) (words_from (written_part head) 0) body)
 item_failed LongLine = tt
 item_failed LongTable = tt
 item_failed UnclosedTable = tt

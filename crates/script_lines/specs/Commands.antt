@@ -1,4 +1,4 @@
--- What a line is as a command. It is read from left to right, and the first word that breaks a rule decides; its
+-- What a line, or a block with the line that opens it, is as a command. A line is read from left to right, and the first word that breaks a rule decides; its
 -- place is counted from 1. Where the line ends too early, the place is the one after its end.
 use Rattle.std.specs.Prelude.{ℕ, ◌+◌, ◌||◌, Bool, false, if◌then◌else◌, List, [], ◌∷◌, length, Option, Some, None, Result, Ok, Err, bytes_eq, codes}
 use Rattle.formula_ast.specs.Names.{is_plain_name, is_name}
@@ -6,7 +6,7 @@ use Rattle.line_text.specs.Words.{Word, words_from, written_part}
 use Rattle.sheet_rows.specs.Rows.{Row}
 use Rattle.row_text.specs.Parts.{Read as ReadRow}
 use Rattle.row_text.specs.Reading.{take_memory, row_at}
-use Rattle.sheet_rows.specs.declared.fault.RowFault.TheVariants.{NotBuilt as RowNotBuilt}
+use Rattle.row_text.specs.Tables.{table_at, is_head}
 use Rattle.answers.specs.Commands.{Command, Add, Set, Remove, Change, Undo, Redo, Mark, Restore, Ask, AskAt}
 use Rattle.answers.specs.declared.command.Query.{Query}
 use Rattle.answers.specs.declared.command.Query.TheVariants.{Value, Dump}
@@ -94,10 +94,17 @@ abbrev pub row_of_line : ReadRow Row → Read Row
 row_of_line (Ok row) = Ok row
 row_of_line (Err fault) = Err (RowRefused fault)
 
+-- the command that adds the row that was read, and that which sets it
+abbrev pub adding : ReadRow Row → Read Command
+adding r = mapped (λ row. Change (Add row)) (row_of_line r)
+
+abbrev pub setting : ReadRow Row → Read Command
+setting r = mapped (λ row. Change (Set row)) (row_of_line r)
+
 -- the command of a line whose first word is `w` and whose others are `ws`. `text` is the line without its comment
 -- and its last blanks
 abbrev pub command_with : Verb → List ℕ → Word → List Word → Read Command
-command_with SetVerb text w ws = mapped (λ row. Change (Set row)) (row_of_line (row_at text ws))
+command_with SetVerb text w ws = setting (row_at text ws)
 command_with RemoveVerb text w ws = mapped (λ name. Change (Remove name)) (sole_name (length text) ws)
 command_with UndoVerb text w ws = mapped (λ done. Undo) (no_more ws)
 command_with RedoVerb text w ws = mapped (λ done. Redo) (no_more ws)
@@ -105,7 +112,7 @@ command_with MarkVerb text w ws = mapped Mark (sole_name (length text) ws)
 command_with RestoreVerb text w ws = mapped Restore (sole_name (length text) ws)
 command_with AtVerb text w ws = mapped (λ asked. AskAt asked.0 asked.1) (query_at (length text) ws)
 command_with AskVerb text w ws = mapped Ask (query_with (length text) w ws)
-command_with RowVerb text w ws = mapped (λ row. Change (Add row)) (row_of_line (row_at text (w ∷ ws)))
+command_with RowVerb text w ws = adding (row_at text (w ∷ ws))
 
 -- a line without words is no command
 abbrev pub line_with : List ℕ → List Word → Read (Option Command)
@@ -116,15 +123,24 @@ line_with text (w ∷ ws) = mapped Some (command_with (verb_of w.text) text w ws
 unfoldable pub line_read : List ℕ → Read (Option Command)
 line_read line = line_with (written_part line) (words_from (written_part line) 0)
 
--- no row is a table yet
+-- the command of a block, by the words of the line that opens it: `set` before `table` sets the row
+abbrev pub block_with : List ℕ → List Word → List ℕ → Read Command
+block_with text [] body = adding (table_at text [] body)
+block_with text (w ∷ ws) body =
+    if bytes_eq w.text (codes "set") then setting (table_at text ws body) else adding (table_at text (w ∷ ws) body)
+
+-- the command that the block is which the line `head` opens and of which `body` has the lines
+unfoldable pub block_read : List ℕ → List ℕ → Read Command
+block_read head body = block_with (written_part head) (words_from (written_part head) 0) body
+
 abbrev pub command_read : Item → Read (Option Command)
 command_read (Line line) = line_read line
-command_read (Block head body) = Err (RowRefused RowNotBuilt)
+command_read (Block head body) = mapped Some (block_read head body)
 command_read LongLine = Err LineTooLong
 command_read LongTable = Err TableTooLong
 command_read UnclosedTable = Err TableUnclosed
 
--- ---- whether the reading of the line takes memory: it is to give a row of readings or a formula
+-- ---- whether the reading takes memory: a line is to give a row of readings or a formula, and that of a block is right
 abbrev pub takes_memory_with : Verb → Word → List Word → Bool
 takes_memory_with SetVerb w ws = take_memory ws
 takes_memory_with RemoveVerb w ws = false
@@ -140,9 +156,13 @@ abbrev pub words_take_memory : List Word → Bool
 words_take_memory [] = false
 words_take_memory (w ∷ ws) = takes_memory_with (verb_of w.text) w ws
 
+abbrev pub block_takes_memory : List Word → Bool
+block_takes_memory [] = false
+block_takes_memory (w ∷ ws) = if bytes_eq w.text (codes "set") then is_head ws else is_head (w ∷ ws)
+
 abbrev pub takes_memory : Item → Bool
 takes_memory (Line line) = words_take_memory (words_from (written_part line) 0)
-takes_memory (Block head body) = false
+takes_memory (Block head body) = block_takes_memory (words_from (written_part head) 0)
 takes_memory LongLine = false
 takes_memory LongTable = false
 takes_memory UnclosedTable = false

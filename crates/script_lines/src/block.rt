@@ -5,11 +5,10 @@ ghost use Rattle.std.specs.List.{prefix_len, list_all};
 ghost use Rattle.line_text.specs.Words.{words_left};
 ghost use Rattle.script_lines.specs.Blocks.{begin_table, words_open, opens_block, is_padding, is_end, ends_block};
 
+use crate::verb::SET;
 use line_text::{Words, after, is_blank, written_part};
 
 const TABLE: &[u8] = b"table";
-
-const SET: &[u8] = b"set";
 
 /// Whether the next word is `table`.
 fn begin_table(mut words: Words<'_>) -> bool

@@ -11,6 +11,7 @@ mod laws;
 mod print;
 mod print_fault;
 mod read;
+mod read_block;
 mod splitter;
 #[cfg(test)]
 mod tests;

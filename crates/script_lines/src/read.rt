@@ -1,4 +1,4 @@
-//! A line is read into the command that it is.
+//! An item is read into the command that it is.
 
 ghost use Rattle.std.specs.Prelude.{◌≡◌, ◌+◌, ◌<◌, ◌^◌, ◌∷◌, true, length, option_map, IfOk, IfSome, Err};
 ghost use Rattle.line_text.specs.Memory.{GivesBy};
@@ -10,6 +10,7 @@ ghost use Rattle.answers.specs.Commands.{command_of, IsRegularCommand};
 ghost use Rattle.script_lines.specs.Commands.{row_of_line, command_with, line_read, command_read, takes_memory_with, words_take_memory, takes_memory};
 
 use crate::item::Item;
+use crate::read_block::read_block;
 use crate::verb::{Verb, verb_of};
 use crate::words_after::{alone, read_begun_query, read_name, read_query_at};
 use answers::{Command, Edit, LineFault};
@@ -102,10 +103,10 @@ fn read_line(alloc: Global, line: &[u8]) -> Result<Option<Command>, LineFault>
 /// # Errors
 ///
 /// [`LineFault::LongLine`] for a line, and [`LineFault::LongTable`] for a block that is too long;
-/// [`LineFault::UnclosedTable`] for a block that the end of the input ended; [`RowFault::NotBuilt`] for any other block,
-/// as no row is a table yet; the first word or token that breaks a rule, with its
-/// place in the line, or the rule alone where the row as a whole breaks it; out of memory for lines alone that are
-/// to give a row of readings or a formula.
+/// [`LineFault::UnclosedTable`] for a block that the end of the input ended; the first word or token that breaks a
+/// rule, with its place in the line, or the rule alone where the row as a whole breaks it; for a block whose line is
+/// right the first rule that its records break, with the record's place; out of memory for lines alone that are to
+/// give a row of readings or a formula, and for blocks whose line is right.
 pub fn read_command(alloc: Global, item: &Item) -> Result<Option<Command>, LineFault>
     ensures exact { GivesBy (option_map command_of) LineFault.OutOfMemory result (command_read item.now) }
     ensures memory { result ≡ Err LineFault.OutOfMemory → takes_memory item.now ≡ true }
@@ -113,7 +114,9 @@ pub fn read_command(alloc: Global, item: &Item) -> Result<Option<Command>, LineF
 {
     match item {
         Item::Line(line) => read_line(alloc, line.as_slice()),
-        Item::Block { .. } => Err(LineFault::Row(RowFault::NotBuilt)),
+        Item::Block { head, body } => {
+            Ok(Some(read_block(alloc, head.as_slice(), body.as_slice())?))
+        }
         Item::LongLine => Err(LineFault::LongLine),
         Item::LongTable => Err(LineFault::LongTable),
         Item::UnclosedTable => Err(LineFault::UnclosedTable),

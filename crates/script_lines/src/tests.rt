@@ -175,12 +175,9 @@ fn lines_that_are_no_commands(rt: HostRuntime) -> Result<(), Fail> {
 fn blocks_that_are_no_commands(rt: HostRuntime) -> Result<(), Fail> {
     let alloc = rt.alloc();
     let head = Bytes::from_slice(alloc, b"set table T")?;
-    let body = Bytes::from_slice(alloc, b"A\n1\n2\n")?;
+    let body = Bytes::from_slice(alloc, b"A\n1\n")?;
     for (item, fault) in [
-        (
-            Item::Block { head, body },
-            LineFault::Row(RowFault::NotBuilt),
-        ),
+        (Item::Block { head, body }, LineFault::Row(RowFault::TooFew)),
         (Item::LongTable, LineFault::LongTable),
         (Item::UnclosedTable, LineFault::UnclosedTable),
     ] {
@@ -209,6 +206,20 @@ fn lines_that_are_commands(rt: HostRuntime) -> Result<(), Fail> {
     let Ok(None) = read_command(rt.alloc(), &blank) else {
         panic!(rt; "a command in a comment");
     };
+    Ok(())
+}
+
+#[test]
+fn blocks_that_are_commands(rt: HostRuntime) -> Result<(), Fail> {
+    let alloc = rt.alloc();
+    for (line, does) in [("table T # two", "add"), ("set\ttable T", "set")] {
+        let head = Bytes::from_slice(alloc, line.as_bytes())?;
+        let body = Bytes::from_slice(alloc, b"A\r\n1\n2\n")?;
+        let Ok(Some(command)) = read_command(alloc, &Item::Block { head, body }) else {
+            panic!(rt; "no command: {line}");
+        };
+        assert_eq!(rt; parts_of(&command), (does, Name::new(b"T")), "at {line}");
+    }
     Ok(())
 }
 

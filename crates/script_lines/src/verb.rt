@@ -70,7 +70,7 @@ fn is_query_word(word: &[u8]) -> bool
     word == VALUE || word == DUMP || is_other_query(word)
 }
 
-const SET: &[u8] = b"set";
+pub(crate) const SET: &[u8] = b"set";
 
 const REMOVE: &[u8] = b"remove";
 

@@ -2,7 +2,8 @@
 //! definitions.
 
 ghost use Rattle.std.specs.Prelude.{◌≡◌, ℕ, List, [], ◌∷◌, true, false, length, pos, negsuc, Some, None, Ok, Err, codes};
-ghost use Rattle.sheet_rows.specs.Rows.{Given, Readings, Correlation, Formula};
+ghost use Rattle.sheet_rows.specs.Rows.{Given, Readings, Joint, Correlation, Formula};
+ghost use Rattle.type_a.specs.Tables.{single};
 ghost use Rattle.formula_ast.specs.Trees.{Number};
 ghost use Rattle.type_b.specs.declared.shape.Shape.TheVariants.{Exact};
 ghost use Rattle.type_b.specs.declared.shape.Dof.TheVariants.{Inf};
@@ -64,13 +65,18 @@ pub fn worked_limits()
     ensures long_block { (head body : List ℕ) → length body ≡ 1048577 → block_item head body ≡ LongTable }
 {}
 
-/// Lines that are commands, or none.
+/// Lines and blocks that are commands, and lines that are none.
 pub fn worked_commands()
     ensures empty { command_read (Line []) ≡ Ok None }
     ensures set { command_read (Line (codes "set let Y=5")) ≡ Ok (Some (Change (Set (Formula (codes "Y") (Number (scaled (pos 5) 0)))))) }
     ensures add { command_read (Line (codes "given X 5 exact")) ≡ Ok (Some (Change (Add (Given (codes "X") (scaled (pos 5) 0) Exact Inf)))) }
     ensures readings { command_read (Line (codes "set readings R 1 2.5"))
         ≡ Ok (Some (Change (Set (Readings (codes "R") ((scaled (pos 1) 0 ∷ []) ∷ (scaled (pos 25) 1 ∷ []) ∷ []))))) }
+    ensures table { command_read (Block (codes "table T # two") (codes "V , I\n1,2.50\n3,4\n"))
+        ≡ Ok (Some (Change (Add (Joint (codes "T") (codes "V" ∷ codes "I" ∷ [])
+        ((scaled (pos 1) 0 ∷ scaled (pos 25) 1 ∷ []) ∷ (scaled (pos 3) 0 ∷ scaled (pos 4) 0 ∷ []) ∷ []))))) }
+    ensures set_table { command_read (Block (codes " set\ttable T") (codes "V\n1\n2\n"))
+        ≡ Ok (Some (Change (Set (Joint (codes "T") (codes "V" ∷ []) (single (scaled (pos 1) 0 ∷ scaled (pos 2) 0 ∷ [])))))) }
     ensures correlation { command_read (Line (codes "corr P A T.V -0.5"))
         ≡ Ok (Some (Change (Add (Correlation (codes "P") (codes "A") (codes "T.V") (scaled (negsuc 4) 1))))) }
     ensures blank { command_read (Line (codes " \t # undo")) ≡ Ok None }
@@ -86,12 +92,17 @@ pub fn worked_commands()
     ensures at_dump { command_read (Line (codes "at M dump#")) ≡ Ok (Some (AskAt (codes "M") Dump)) }
 {}
 
-/// Lines that are no commands.
+/// Lines and blocks that are no commands.
 pub fn worked_refusals()
     ensures long { command_read LongLine ≡ Err LineFault.LongLine }
     ensures long_table { command_read LongTable ≡ Err LineFault.LongTable }
     ensures unclosed { command_read UnclosedTable ≡ Err LineFault.UnclosedTable }
-    ensures table { command_read (Block (codes "table T") (codes "A\n1\n2\n")) ≡ Err (LineFault.Row RowFault.NotBuilt) }
+    ensures shape { command_read (Block (codes "table T") (codes "V,I\n1,2\n3\n")) ≡ Err (LineFault.Row (RowFault.Shape 3)) }
+    ensures wide { command_read (Block (codes "set table T") (codes "V\n1\n1000000000\n")) ≡ Err (LineFault.Row (RowFault.Wide 3)) }
+    ensures few { command_read (Block (codes "table T") (codes "V\n1\n")) ≡ Err (LineFault.Row RowFault.TooFew) }
+    ensures no_table_name { command_read (Block (codes "set table # T") []) ≡ Err (LineFault.Row (RowFault.Syntax 10)) }
+    ensures table_column { command_read (Block (codes "table T.V") []) ≡ Err (LineFault.Row (RowFault.Syntax 7)) }
+    ensures no_block { command_read (Line (codes "table T")) ≡ Err (LineFault.Row (RowFault.Syntax 1)) }
     ensures returned { command_read (Line (codes "undo\r")) ≡ Err (LineFault.Row (RowFault.Syntax 1)) }
     ensures superfluous { command_read (Line (codes "dump x")) ≡ Err (LineFault.Syntax 6) }
     ensures counted { command_read (Line (codes "undo 1")) ≡ Err (LineFault.Syntax 6) }
@@ -143,4 +154,7 @@ pub fn worked_replies()
     ensures no_rows { text_of_reply (Reply.Said (Answer.Dump [])) ≡ codes "ok\n" }
     ensures rows { text_of_reply (Reply.Said (Answer.Dump (Given (codes "X") (scaled (pos 5) 0) Exact Inf ∷ Formula (codes "Y") (Number (scaled (pos 5) 0)) ∷ [])))
         ≡ codes "given X 5 exact\nlet Y = 5\nok\n" }
+    ensures table { text_of_reply (Reply.Said (Answer.Dump (Joint (codes "T") (codes "V" ∷ codes "I" ∷ [])
+        ((scaled (pos 1) 0 ∷ scaled (pos 25) 1 ∷ []) ∷ (scaled (pos 3) 0 ∷ scaled (pos 4) 0 ∷ []) ∷ []) ∷ [])))
+        ≡ codes "table T\nV,I\n1,2.5\n3,4\nend\nok\n" }
 {}

@@ -1,9 +1,11 @@
 use Rattle.std.proofs.Common.{refl}
+use Rattle.csv.proofs.OnLiterals.{csv_on_literals}
+use Rattle.table_records.specs.Tables.{records_read}
 use Rattle.decimal18.specs.Literal.{parsed}
 use Rattle.formula_ast.specs.Reading.{reading_of}
 use Rattle.row_text.specs.Reading.{row_read}
 use Rattle.type_a.specs.Tables.{refusal}
-use Rattle.script_lines.specs.Commands.{line_read}
+use Rattle.script_lines.specs.Commands.{line_read, block_read}
 use Rattle.script_lines.proofs.worked.worked_commands.Goals as goal
 
 pub returns-clause-empty : goal.returns-clause-empty
@@ -69,3 +71,11 @@ returns-clause-readings c = refl
 pub returns-clause-correlation : goal.returns-clause-correlation
 unfolding line_read row_read reading_of parsed refusal
 returns-clause-correlation c = refl
+
+pub returns-clause-table : goal.returns-clause-table
+unfolding csv_on_literals block_read records_read parsed refusal
+returns-clause-table c = refl
+
+pub returns-clause-set_table : goal.returns-clause-set_table
+unfolding csv_on_literals block_read records_read parsed refusal
+returns-clause-set_table c = refl

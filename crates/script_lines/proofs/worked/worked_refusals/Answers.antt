@@ -1,8 +1,11 @@
 use Rattle.std.proofs.Common.{refl}
+use Rattle.csv.proofs.OnLiterals.{csv_on_literals}
+use Rattle.type_a.specs.Tables.{refusal}
+use Rattle.table_records.specs.Tables.{records_read}
 use Rattle.decimal18.specs.Literal.{parsed}
 use Rattle.formula_ast.specs.Reading.{reading_of}
 use Rattle.row_text.specs.Reading.{row_read}
-use Rattle.script_lines.specs.Commands.{line_read}
+use Rattle.script_lines.specs.Commands.{line_read, block_read}
 use Rattle.script_lines.proofs.worked.worked_refusals.Goals as goal
 
 pub returns-clause-long : goal.returns-clause-long
@@ -77,10 +80,30 @@ pub returns-clause-unclosed : goal.returns-clause-unclosed
 unfolding line_read row_read reading_of parsed
 returns-clause-unclosed c = refl
 
-pub returns-clause-table : goal.returns-clause-table
-unfolding line_read row_read reading_of parsed
-returns-clause-table c = refl
-
 pub returns-clause-no_second : goal.returns-clause-no_second
 unfolding line_read row_read reading_of parsed
 returns-clause-no_second c = refl
+
+pub returns-clause-shape : goal.returns-clause-shape
+unfolding csv_on_literals block_read records_read parsed refusal
+returns-clause-shape c = refl
+
+pub returns-clause-wide : goal.returns-clause-wide
+unfolding csv_on_literals block_read records_read parsed refusal
+returns-clause-wide c = refl
+
+pub returns-clause-few : goal.returns-clause-few
+unfolding csv_on_literals block_read records_read parsed refusal
+returns-clause-few c = refl
+
+pub returns-clause-no_table_name : goal.returns-clause-no_table_name
+unfolding csv_on_literals block_read records_read parsed refusal
+returns-clause-no_table_name c = refl
+
+pub returns-clause-table_column : goal.returns-clause-table_column
+unfolding csv_on_literals block_read records_read parsed refusal
+returns-clause-table_column c = refl
+
+pub returns-clause-no_block : goal.returns-clause-no_block
+unfolding line_read
+returns-clause-no_block c = refl

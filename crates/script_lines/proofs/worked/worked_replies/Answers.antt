@@ -117,3 +117,7 @@ returns-clause-no_correlation c = refl
 pub returns-clause-correlated : goal.returns-clause-correlated
 unfolding digits
 returns-clause-correlated c = refl
+
+pub returns-clause-table : goal.returns-clause-table
+unfolding digits
+returns-clause-table c = refl
