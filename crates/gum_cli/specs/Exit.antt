@@ -1,6 +1,5 @@
 -- How the program ends: its exit status, and what it says on standard error.
 use Rattle.std.specs.Prelude.{ℕ, List, Option, Some, None, codes}
-use Rattle.gum_cli.specs.declared.run.Status.{Status}
 use Rattle.gum_cli.specs.declared.run.Status.TheVariants.{Done, Usage, ReadFault, WriteFault, InputLimit, OutOfMemory}
 use Rattle.gum_cli.specs.declared.exit.Ending.{Ending}
 use Rattle.gum_cli.specs.declared.exit.Ending.TheVariants.{Ran, NoWords}

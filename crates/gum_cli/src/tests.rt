@@ -99,11 +99,21 @@ const REFUSED_COMMANDS: [(&str, &str); 27] = [
 ];
 
 // Tables, and commands by their names, that are refused on this sheet, and why.
-const REFUSED_TABLES: [(&str, &str); 19] = [
+const REFUSED_TABLES: [(&str, &str); 26] = [
     ("table U\nend", "too_few"),
     ("table U\nA\n1\nend", "too_few"),
     ("table U\nV,V\n1,2\n3,4\nend", "shape 1"),
+    ("table U\nV,\n1,2\n3,4\nend", "shape 1"),
+    ("table U\n\" end\"\n1\n2\nend", "shape 1"),
+    ("table U\naaaaaaaaaaaaaaaaaaaaaaaaa\n1\n2\nend", "shape 1"),
+    (
+        "table U\nA,B,C,D,E,F,G,H,I\n1,2,3,4,5,6,7,8,9\nend",
+        "shape 1",
+    ),
     ("table U\nV,I\n1,2\n3\nend", "shape 3"),
+    ("table U\nV\n1\n \nend", "not_number 3"),
+    ("table U\nV\n1\n\"2,\n3\"\nend", "not_number 3"),
+    ("table U\nV\n9\n1\n1e-15\nend", "wide 2"),
     ("table U\nA\n1\nx\nend", "not_number 3"),
     ("table U\nA\n1\n1e999\nend", "number_range 3"),
     ("table U\nA\n1\n1000000000\nend", "wide 3"),
@@ -296,6 +306,8 @@ fn refuses_lines(rt: HostRuntime) -> Result<(), Fail> {
             => b"refused nothing_to_undo\nrefused shape 1\nrefused nothing_to_redo\n",
         b"table T\nA\nundo\n" => b"refused open_table\n",
         b"table T" => b"refused open_table\n",
+        b"table T\nV\n\"1\nend\n2\nend\ntable T\nV\n1\n999999999\nend\nvalue T.V\n"
+            => b"refused not_number 2\nrefused syntax 1\nrefused syntax 1\nok\nvalue T.V 500000000 500000000\n",
     }
     Ok(())
 }
