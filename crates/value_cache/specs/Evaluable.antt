@@ -1,5 +1,5 @@
 -- Quantities each of which uses quantities that are there, and the evaluations that are kept of them.
-use Rattle.std.specs.Prelude.{◌≡◌, ℕ, ◌≤◌, Bool, List, [], ◌∷◌, ◌++◌, length, Some, None, is_some}
+use Rattle.std.specs.Prelude.{◌≡◌, ℕ, ◌≤◌, Bool, false, List, [], ◌∷◌, ◌++◌, length, Some, None, is_some}
 use Rattle.value_cache.specs.Quantities.{Body, Quantity, body_of, is_there, first_unknown, used_by, HasItsColumn}
 use Rattle.value_cache.specs.Evaluations.{Found, evaluation_through, evaluation_of}
 
@@ -27,3 +27,9 @@ pub record Keeps {K : Type 0} (same : K → K → Bool) (qs : List (Quantity K))
 -- one quantity more
 abbrev pub with_quantity : {K : Type 0} → List (Quantity K) → K → Body K → List (Quantity K)
 with_quantity qs key body = qs ++ record { key = key; body = body } ∷ []
+
+-- after these quantities, each has a new key and uses those before it alone
+abbrev pub AreInOrder : {K : Type 0} → (K → K → Bool) → List (Quantity K) → List (Quantity K) → Type 0
+AreInOrder same before [] = Unit {0}
+AreInOrder same before (q ∷ qs) =
+    (is_there same before q.key ≡ false) × (first_unknown same before (used_by q.body) ≡ None) × AreInOrder same (before ++ q ∷ []) qs

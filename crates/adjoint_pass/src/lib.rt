@@ -1,0 +1,6 @@
+//! The sensitivities of a quantity to all on which it depends, by one sweep from users to what they use.
+#![tactic(auto)]
+
+mod laws;
+
+pub use laws::sensitivities_are_enclosed;
