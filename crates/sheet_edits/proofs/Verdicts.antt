@@ -10,8 +10,8 @@ use Rattle.formula_ast.specs.Names.{is_plain_name}
 use Rattle.sheet_rows.specs.Regular.{IsRegular, AreRegular}
 use Rattle.sheet_rows.proofs.Parts.{row_part-plain, row_part-column}
 use Rattle.sheet_edits.proofs.Regular.{regular_added, regular_set, regular_taken, no_row}
-use Rattle.sheet_rows.specs.Rows.{Row, Sheet, Given, Readings, Joint, Correlation, Formula, column_name, column_names, row_part, name_of, used_names, quantities_of, gives, correlated_names, is_correlatable}
-use Rattle.sheet_edits.specs.Sheets.{Verdict, is_named, is_among, has_row, quantities_in, is_quantity_in, has_quantity, is_correlatable_in, repeated_name, is_correlated_apart, are_named_once, are_known, are_correlatable, are_apart, first_unknown, first_not_earlier, first_not_correlatable, first_correlated, row_limit, added, rows_with, set_row, rows_without, removed, rows_before, unless, unless_uses_fail, unless_left, verdict_add, verdict_set, verdict_on_set, is_user_of, verdict_remove, verdict_on_removal}
+use Rattle.sheet_rows.specs.Rows.{Row, Sheet, Given, Readings, Joint, Correlation, Formula, column_name, column_names, row_part, name_of, used_names, quantities_of, gives, gives_input, correlated_names, is_correlatable}
+use Rattle.sheet_edits.specs.Sheets.{Verdict, is_named, is_among, has_row, quantities_in, is_quantity_in, has_quantity, is_input_in, is_correlatable_in, repeated_name, is_correlated_apart, are_named_once, are_known, are_correlatable, are_apart, first_unknown, first_not_earlier, first_not_correlatable, first_correlated, row_limit, added, rows_with, set_row, rows_without, removed, rows_before, unless, unless_uses_fail, unless_left, verdict_add, verdict_set, verdict_on_set, is_user_of, verdict_remove, verdict_on_removal}
 use Rattle.sheet_edits.specs.Places.{place_of, is_known_with, is_correlatable_with, stands_before, unless_names_fail}
 use Rattle.std.proofs.Math.Bool.{or-false}
 use Rattle.std.proofs.lemmas.Bool.{lt-leb, and_right, or_parts}
@@ -80,6 +80,31 @@ quantity_last r n = list_any-append (bytes_eq n) (quantities_of r) [] ∙ or-fal
 pub quantity_found : (xs : List Row) (n : List ℕ) → AreRegular xs → are_named_once xs ≡ true
     → is_quantity_in xs n ≡ holds (λ r. gives r n) (row_part n) (find (is_named (row_part n)) xs)
 quantity_found xs n regular once = quantity_named xs n regular ∙ has_found (λ r. gives r n) (row_part n) xs once
+
+-- ---- inputs
+input_gives : (r : Row) (n : List ℕ) → gives_input r n ≡ true → gives r n ≡ true
+input_gives (Given name estimate shape dof) n e = e
+input_gives (Readings name table) n e = e
+input_gives (Joint name columns table) n e = e
+input_gives (Correlation name first second coefficient) n e = e
+input_gives (Formula name formula) n e = absurd (true≢false (sym e))
+
+input_named : (r : Row) (n : List ℕ) → IsRegular r → gives_input r n ≡ (is_named (row_part n) r && gives_input r n)
+input_named r n h = by (gives_input r n) refl where
+  by : (t : Bool) → gives_input r n ≡ t → t ≡ (is_named (row_part n) r && t)
+  by true e = sym (ap (λ t. t && true) (gives_part r n h (input_gives r n e)))
+  by false e = sym (and_right (is_named (row_part n) r) false refl)
+
+inputs_named : (xs : List Row) (n : List ℕ) → AreRegular xs → is_input_in xs n ≡ list_any (λ r. is_named (row_part n) r && gives_input r n) xs
+inputs_named [] n h = refl
+inputs_named (r ∷ rs) n h =
+    let first = input_named r n h.0 in
+    let rest = inputs_named rs n h.1 in
+    (λ j. first j || rest j)
+
+pub input_found : (xs : List Row) (n : List ℕ) → AreRegular xs → are_named_once xs ≡ true
+    → is_input_in xs n ≡ holds (λ r. gives_input r n) (row_part n) (find (is_named (row_part n)) xs)
+input_found xs n regular once = inputs_named xs n regular ∙ has_found (λ r. gives_input r n) (row_part n) xs once
 
 pub no_quantity : (xs : List Row) (n : List ℕ) → AreRegular xs → is_among xs (row_part n) ≡ false → is_quantity_in xs n ≡ false
 no_quantity xs n regular h = quantity_named xs n regular ∙ has_none (λ r. gives r n) (row_part n) xs h

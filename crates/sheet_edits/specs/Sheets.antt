@@ -3,7 +3,7 @@
 use Rattle.std.specs.Prelude.{◌≡◌, ◌≤◌, ◌&&◌, ℕ, Bool, true, not, nat_le, if◌then◌else◌, List, [], ◌∷◌, ◌++◌, length, find, Option, None, Some, is_some, Result, Ok, Err, bytes_eq}
 use Rattle.std.specs.List.{list_any, list_all}
 use Rattle.std.specs.Option.{option_map, option_or}
-use Rattle.sheet_rows.specs.Rows.{Row, Sheet, Given, Readings, Joint, Correlation, Formula, name_of, used_names, quantities_of, gives, correlated_names, correlates, is_correlatable}
+use Rattle.sheet_rows.specs.Rows.{Row, Sheet, Given, Readings, Joint, Correlation, Formula, name_of, used_names, quantities_of, gives, gives_input, correlated_names, correlates, is_correlatable}
 use Rattle.sheet_rows.specs.declared.edit_fault.EditFault.{EditFault}
 use Rattle.sheet_rows.specs.declared.edit_fault.EditFault.TheVariants.{RowsFull, Duplicate, Unknown, NotEarlier, NotCorrelatable, AlreadyCorrelated, InUse}
 
@@ -30,6 +30,13 @@ is_quantity_in rows n = list_any (bytes_eq n) (quantities_in rows)
 
 abbrev pub has_quantity : Sheet → List ℕ → Bool
 has_quantity sheet n = is_quantity_in sheet.rows n
+
+-- the name is an input of the rows
+abbrev pub is_input_in : List Row → List ℕ → Bool
+is_input_in rows n = list_any (λ row. gives_input row n) rows
+
+abbrev pub has_input : Sheet → List ℕ → Bool
+has_input sheet n = is_input_in sheet.rows n
 
 -- ---- correlations
 -- the name is that of an input of the rows that may be correlated

@@ -2,7 +2,7 @@ ghost use Rattle.std.specs.Prelude.{◌≡◌, ◌<◌, map, length, find, None,
 ghost use Rattle.std.specs.Option.{option_map};
 ghost use Rattle.sheet_rows.specs.Rows.{empty_sheet, row_of, row_part};
 ghost use Rattle.sheet_edits.specs.Standing.{IsStanding};
-ghost use Rattle.sheet_edits.specs.Sheets.{is_named, has_quantity, is_correlatable_in, added, set_row};
+ghost use Rattle.sheet_edits.specs.Sheets.{is_named, has_quantity, has_input, is_correlatable_in, added, set_row};
 ghost use Rattle.sheet_edits.specs.Places.{place_of, code_name};
 
 use formula_ast::{Name, cut};
@@ -71,6 +71,16 @@ impl Sheet {
     {
         match self.row_of_quantity(name) {
             Some(row) => row.gives(name),
+            None => false,
+        }
+    }
+
+    /// Whether the name is that of an input of the sheet.
+    pub fn has_input(&self, name: &Name) -> bool
+        ensures { result ≡ has_input self.now name.now }
+    {
+        match self.row_of_quantity(name) {
+            Some(row) => row.gives_input(name),
             None => false,
         }
     }

@@ -67,6 +67,14 @@ quantities_of (Formula name formula) = name ∷ []
 abbrev pub gives : Row → List ℕ → Bool
 gives row n = list_any (bytes_eq n) (quantities_of row)
 
+-- the name is that of an input of the row (JCGM 100:2008, 4.1.3), which has an estimate of its own
+abbrev pub gives_input : Row → List ℕ → Bool
+gives_input (Given name estimate shape dof) n = gives (Given name estimate shape dof) n
+gives_input (Readings name table) n = gives (Readings name table) n
+gives_input (Joint name columns table) n = gives (Joint name columns table) n
+gives_input (Correlation name first second coefficient) n = false
+gives_input (Formula name formula) n = false
+
 -- ---- correlations
 -- the names of the two inputs, where the row is a correlation
 abbrev pub correlated_names : Row → List (List ℕ)

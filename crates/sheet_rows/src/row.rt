@@ -2,7 +2,7 @@ ghost use Rattle.std.specs.Prelude.{◌≡◌, ◌+◌, ◌≤◌, true, [], ◌
 ghost use Rattle.std.specs.List.{list_any};
 ghost use Rattle.formula_ast.specs.Names.{is_plain_name};
 ghost use Rattle.formula_ast.specs.Trees.{distinct};
-ghost use Rattle.sheet_rows.specs.Rows.{row_of, name_of, names_used, column_name, column_names, gives, correlates, is_correlatable};
+ghost use Rattle.sheet_rows.specs.Rows.{row_of, name_of, names_used, column_name, column_names, gives, gives_input, correlates, is_correlatable};
 
 use decimal18::Dec;
 use formula_ast::{Formula, Name, NameList, names};
@@ -106,6 +106,16 @@ impl Row {
             } => is_of_columns(name, table, columns.as_slice()),
             Row::Correlation { .. } => false,
             Row::Formula { name: own, .. } => own == name,
+        }
+    }
+
+    /// Whether the name is that of an input of the row.
+    pub fn gives_input(&self, name: &Name) -> bool
+        ensures { result ≡ gives_input (row_of self.now) name.now }
+    {
+        match self {
+            Row::Given { .. } | Row::Readings { .. } | Row::Joint { .. } => self.gives(name),
+            Row::Correlation { .. } | Row::Formula { .. } => false,
         }
     }
 
