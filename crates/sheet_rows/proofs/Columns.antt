@@ -1,7 +1,6 @@
 -- Names of columns: that of the table, a point, and that of the column.
-use Rattle.std.proofs.Common.{◌≡◌, ℕ, suc, ◌+◌, ◌-◌, ◌<◌, ◌≤◌, Bool, true, false, not, nat_eq, bytes_eq, length, List, [], ◌∷◌, ◌++◌, slice_index_or, refl, sym, ap, ◌∙◌, arith, length-append}
+use Rattle.std.proofs.Common.{◌≡◌, ℕ, suc, ◌+◌, ◌-◌, ◌<◌, ◌≤◌, Bool, true, false, not, bytes_eq, length, List, [], ◌∷◌, ◌++◌, slice_index_or, refl, sym, ap, ◌∙◌, arith, length-append}
 use Rattle.std.specs.Prelude.{take, drop}
-use Rattle.std.proofs.lemmas.Bool.Decides.{Decides-eqb}
 use Rattle.std.proofs.lemmas.Slice.Eq.{bytes_eq-Decides}
 use Rattle.std.proofs.lemmas.List.{take-append-drop, drop_more, take_all, length-drop}
 use Rattle.std.proofs.Math.Seq.{take-append_seam}
@@ -22,9 +21,6 @@ is_other r false e h = refl
 pub is_same : (r b : Bool) → r ≡ not b → r ≡ false → b ≡ true
 is_same r true e h = refl
 is_same r false e h = absurd (cc)
-
-pub other_byte : (a b : ℕ) → (a ≡ b → ⊥) → nat_eq a b ≡ false
-other_byte a b h = sym (is_false (nat_eq a b) (λ e. h ((Decides-eqb a b).0 e)))
 
 pub other_column : (n t c : List ℕ) → (n ≡ column_name t c → ⊥) → false ≡ bytes_eq n (column_name t c)
 other_column n t c h = is_false _ (λ e. h (same n (column_name t c) e))

@@ -2,8 +2,7 @@
 use Rattle.std.proofs.Common.{◌≡◌, ℕ, ◌+◌, ◌≤◌, ◌++◌, length, take, drop, slice_set, length-append, arith, ◌==◌, Bool, true, false, List, [], ◌∷◌, get_or, refl, sym, ap, ◌∙◌}
 use Rattle.std.specs.Prelude.{Option, Some, None, if◌then◌else◌}
 use Rattle.std.specs.List.{slice_split, list_all, All, join_with_byte}
-use Rattle.std.proofs.lemmas.Bool.{and_parts, and_from}
-use Rattle.std.proofs.lemmas.Bool.Decides.{Decides-eqb}
+use Rattle.std.proofs.lemmas.Bool.{and_parts, and_from, ne_eqb}
 use Rattle.std.proofs.lemmas.List.Splits.{slice_split_at, slice_split_none, join_with_byte-slice_split}
 use Rattle.std.proofs.lemmas.List.{append_assoc, length-drop, length-set, take_more_set}
 use Rattle.std.proofs.lemmas.Slice.{take-put_mid}
@@ -13,29 +12,21 @@ use Rattle.std.proofs.Math.Seq.{take-append_seam}
 use Rattle.formula_ast.specs.Names.{begins_name, goes_on_name, is_plain_name, are_name_parts, is_name}
 use Rattle.sheet_rows.specs.Rows.{column_name, row_part}
 
-not_point : (b : ℕ) → goes_on_name b ≡ true → (b == 46) ≡ false
-not_point b h = by (b == 46) refl where
-  by : (t : Bool) → (b == 46) ≡ t → t ≡ false
-  by false e = refl
-  by true e = absurd (cc (h, ap goes_on_name ((Decides-eqb b 46).0 e)))
+-- a byte that a test accepts is not one that it refuses
+pub not_refused : (test : ℕ → Bool) (byte other : ℕ) → test byte ≡ true → test other ≡ false → (byte == other) ≡ false
+not_refused test byte other h k = ne_eqb byte other (λ e. absurd (cc (h, k, ap test e)))
 
 all_free : (bs : List ℕ) → list_all goes_on_name bs ≡ true → All (λ byte. (byte == 46) ≡ false) bs
 all_free [] h = λ k d below. absurd (omega (arith, below))
 all_free (b ∷ bs) h =
     let both = and_parts (goes_on_name b) (list_all goes_on_name bs) h in
-    All-cons (λ byte. (byte == 46) ≡ false) b bs (not_point b both.0) (all_free bs both.1)
-
-begin_goes_on : (b : ℕ) → begins_name b ≡ true → (b == 46) ≡ false
-begin_goes_on b h = by (b == 46) refl where
-  by : (t : Bool) → (b == 46) ≡ t → t ≡ false
-  by false e = refl
-  by true e = absurd (cc (h, ap begins_name ((Decides-eqb b 46).0 e)))
+    All-cons (λ byte. (byte == 46) ≡ false) b bs (not_refused goes_on_name b 46 both.0 refl) (all_free bs both.1)
 
 pub free : (n : List ℕ) → is_plain_name n ≡ true → All (λ byte. (byte == 46) ≡ false) n
 free [] h = λ k d below. absurd (omega (arith, below))
 free (b ∷ bs) h =
     let both = and_parts (begins_name b) _ h in
-    All-cons (λ byte. (byte == 46) ≡ false) b bs (begin_goes_on b both.0) (all_free bs (and_parts (list_all goes_on_name bs) _ both.1).0)
+    All-cons (λ byte. (byte == 46) ≡ false) b bs (not_refused begins_name b 46 both.0 refl) (all_free bs (and_parts (list_all goes_on_name bs) _ both.1).0)
 
 plain_parts : (n : List ℕ) → is_plain_name n ≡ true → slice_split (λ byte. byte == 46) n ≡ n ∷ []
 plain_parts n h = slice_split_none (λ byte. byte == 46) n (free n h)

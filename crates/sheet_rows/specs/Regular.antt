@@ -1,6 +1,7 @@
 -- Regular rows, which are those that lines give: the name is plain, the numbers are bounds in canonical form, the
 -- shape states an uncertainty and its degrees of freedom are in range (JCGM 100:2008, 4.3, G.4.2), the readings are
--- taken and stand in as many columns as have names, the correlation coefficient is from -1 to 1 (5.2.2), and the printed formula is read as the formula again.
+-- taken and stand in as many columns as have names, the correlation coefficient is from -1 to 1 (5.2.2), and the printed
+-- formula is read as the formula again.
 use Rattle.std.specs.Prelude.{◌≡◌, ◌^◌, nat_le, unsigned_abs, Bool, true, List, [], ◌∷◌, length, None, Ok}
 use Rattle.decimal18.specs.Bound.{Bound, IsDecimal}
 use Rattle.formula_ast.specs.Names.{is_plain_name, is_name}

@@ -75,6 +75,14 @@ gives_input (Joint name columns table) n = gives (Joint name columns table) n
 gives_input (Correlation name first second coefficient) n = false
 gives_input (Formula name formula) n = false
 
+-- whether the row is a table, which alone has quantities under other names than its own
+abbrev pub is_table : Row → Bool
+is_table (Given name estimate shape dof) = false
+is_table (Readings name table) = false
+is_table (Joint name columns table) = true
+is_table (Correlation name first second coefficient) = false
+is_table (Formula name formula) = false
+
 -- ---- correlations
 -- the names of the two inputs, where the row is a correlation
 abbrev pub correlated_names : Row → List (List ℕ)

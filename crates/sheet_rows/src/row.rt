@@ -183,6 +183,9 @@ fn joined<'a>(text: &'a mut [u8], table: &[u8], column: &[u8]) -> &'a [u8]
     &text[..end]
 }
 
+/// The most bytes of the name of a column's quantity: those of two plain names and of the point between them.
+const COLUMN_NAME_LIMIT: usize = 49;
+
 /// The name of the quantity of a column of a table, which is that of the table and that of the column with a point
 /// between them.
 pub fn column_name(table: &Name, column: &Name) -> Name
@@ -190,9 +193,9 @@ pub fn column_name(table: &Name, column: &Name) -> Name
     requires column { is_plain_name column.now ≡ true }
     ensures { result ≡ column_name table.now column.now }
 {
-    let mut text = [0u8; 49];
-    let joined = joined(&mut text, table.as_bytes(), column.as_bytes());
-    Name::new(joined).unwrap()
+    let mut text = [0u8; COLUMN_NAME_LIMIT];
+    let whole = joined(&mut text, table.as_bytes(), column.as_bytes());
+    Name::new(whole).unwrap()
 }
 
 /// The two names, each once.

@@ -1,6 +1,7 @@
 use Rattle.std.proofs.Common.{bytes_eq, ◌∙◌, ap, ap₂, refl}
+use Rattle.std.proofs.lemmas.Bool.{ne_eqb}
 use Rattle.sheet_rows.specs.Rows.{column_name}
-use Rattle.sheet_rows.proofs.Columns.{other_column, too_short, other_table, no_point, by_column, is_other, is_same, other_byte}
+use Rattle.sheet_rows.proofs.Columns.{other_column, too_short, other_table, no_point, by_column, is_other, is_same}
 use Rattle.sheet_rows.proofs.row.is_of_column.Goals as goal
 use Rattle.sheet_rows.proofs.row.is_of_column.Goals.{then-at-text-via-then-at-text, then-at-text-via-else-at-text+then-ne}
 
@@ -23,4 +24,4 @@ returns-then-text-at-eq46 c =
 pub returns-else-text-at-eq46 : goal.returns-else-text-at-eq46
 returns-else-text-at-eq46 c =
     let same = ap₂ (λ n t. bytes_eq n (column_name t c.args.column.now)) c.as_bytes-text.ensures.text c.as_bytes-table.ensures.text in
-    other_byte _ _ c.if-text-at-eq46.false ∙ other_column c.as_bytes-text.result.now c.as_bytes-table.result.now c.args.column.now (no_point _ _ _ c.if-text-at-eq46.false) ∙ same
+    ne_eqb _ _ c.if-text-at-eq46.false ∙ other_column c.as_bytes-text.result.now c.as_bytes-table.result.now c.args.column.now (no_point _ _ _ c.if-text-at-eq46.false) ∙ same
