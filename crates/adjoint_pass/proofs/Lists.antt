@@ -1,7 +1,8 @@
 -- What holds of each element of a list, filtered and mapped.
-use Rattle.std.specs.Prelude.{◌≡◌, Bool, true, false, cond, ◌||◌, List, [], ◌∷◌, map, filter, refl}
+use Rattle.std.specs.Prelude.{◌≡◌, Bool, true, false, cond, ◌||◌, List, [], ◌∷◌, map, filter, reverse, refl}
 use Rattle.std.specs.List.{AllByRecursion, list_any}
 use Rattle.std.proofs.Common.{ap, ap₂}
+use mathlib.Core.List.{reverse_aux}
 
 pub all_weaker : {X : Type 0} (P Q : X → Type 0) → ((x : X) → P x → Q x) → (xs : List X) → AllByRecursion P xs → AllByRecursion Q xs
 all_weaker P Q step [] h = tt
@@ -41,3 +42,14 @@ map_same f g (x ∷ xs) h = ap₂ (λ y ys. y ∷ ys) h.0 (map_same f g xs h.1)
 pub any_same : {X : Type 0} (f g : X → Bool) (xs : List X) → AllByRecursion (λ x. f x ≡ g x) xs → list_any f xs ≡ list_any g xs
 any_same f g [] h = refl
 any_same f g (x ∷ xs) h = ap₂ (λ a b. a || b) h.0 (any_same f g xs h.1)
+
+pub all_unmapped : {X Y : Type 0} (P : Y → Type 0) (f : X → Y) (xs : List X) → AllByRecursion P (map f xs) → AllByRecursion (λ x. P (f x)) xs
+all_unmapped P f [] h = tt
+all_unmapped P f (x ∷ xs) h = (h.0, all_unmapped P f xs h.1)
+
+all_reversed_on : {X : Type 0} (P : X → Type 0) (xs done : List X) → AllByRecursion P xs → AllByRecursion P done → AllByRecursion P (reverse_aux xs done)
+all_reversed_on P [] done h k = k
+all_reversed_on P (x ∷ xs) done h k = all_reversed_on P xs (x ∷ done) h.1 (h.0, k)
+
+pub all_reversed : {X : Type 0} (P : X → Type 0) (xs : List X) → AllByRecursion P xs → AllByRecursion P (reverse xs)
+all_reversed P xs h = all_reversed_on P xs [] h tt

@@ -72,18 +72,29 @@ known_later same q qs n h = by (same q.key n) where
   by true = refl
   by false = h
 
+pub known_all : {K : Type 0} (same : K → K → Bool) (qs : List (Quantity K)) (ns : List K) → first_unknown same qs ns ≡ None
+    → AllByRecursion (λ n. is_there same qs n ≡ true) ns
+known_all same qs [] e = tt
+known_all same qs (n ∷ ns) e = by (is_there same qs n) refl e (known_all same qs ns) where
+  by : (b : Bool) → is_there same qs n ≡ b → cond (not b) (Some n) (first_unknown same qs ns) ≡ None
+      → (first_unknown same qs ns ≡ None → AllByRecursion (λ m. is_there same qs m ≡ true) ns)
+      → AllByRecursion (λ m. is_there same qs m ≡ true) (n ∷ ns)
+  by true there none rest = (there, rest none)
+  by false there none rest = absurd (none-some n (sym none))
+
+-- what holds of each of some keys holds of a key that is found among them
+pub holds_among : {K : Type 0} (same : K → K → Bool) → IsSameTest same → (P : K → Type 0) (ns : List K) → AllByRecursion P ns
+    → (n : K) → list_any (λ m. same m n) ns ≡ true → P n
+holds_among same law P [] h n e = absurd (true≢false (sym e))
+holds_among same law P (m ∷ ms) h n e =
+    by (or_cases (same m n) (list_any (λ k. same k n) ms) e) (holds_among same law P ms h.1 n) where
+      by : (same m n ≡ true) ⊎ (list_any (λ k. same k n) ms ≡ true) → (list_any (λ k. same k n) ms ≡ true → P n) → P n
+      by (inl f) rest = subst P (law.sound m n f) h.0
+      by (inr f) rest = rest f
+
 used_are_there : {K : Type 0} (same : K → K → Bool) → IsSameTest same → (qs : List (Quantity K)) (ns : List K) → first_unknown same qs ns ≡ None
     → (n : K) → list_any (λ m. same m n) ns ≡ true → is_there same qs n ≡ true
-used_are_there same law qs [] e n u = absurd (true≢false (sym u))
-used_are_there same law qs (m ∷ ms) e n u =
-    by (is_there same qs m) refl e (or_cases (same m n) (list_any (λ k. same k n) ms) u) (λ k. used_are_there same law qs ms k n) where
-      by : (b : Bool) → is_there same qs m ≡ b → cond (not b) (Some m) (first_unknown same qs ms) ≡ None
-          → (same m n ≡ true) ⊎ (list_any (λ k. same k n) ms ≡ true)
-          → (first_unknown same qs ms ≡ None → list_any (λ k. same k n) ms ≡ true → is_there same qs n ≡ true)
-          → is_there same qs n ≡ true
-      by true there none (inl f) rest = ap (is_there same qs) (sym (law.sound m n f)) ∙ there
-      by true there none (inr f) rest = rest none f
-      by false there none f rest = absurd (none-some m (sym none))
+used_are_there same law qs ns e n u = holds_among same law (λ m. is_there same qs m ≡ true) ns (known_all same qs ns e) n u
 
 pub uses_there : {K : Type 0} (same : K → K → Bool) → IsSameTest same → (rs : List (Quantity K)) → IsLastFirst same rs
     → AllByRecursion (λ q. (n : K) → uses_of same q.body n ≡ true → is_there same rs n ≡ true) rs

@@ -1,15 +1,15 @@
 -- Nodes in an order in which each stands after all that use it: as many turns as there are nodes are enough, so that
 -- sensitivities and cones solve their equations.
-use Rattle.std.specs.Prelude.{◌≡◌, ℕ, zero, suc, ◌<◌, ◌≤◌, Bool, true, false, if◌then◌else◌, ◌||◌, List, [], ◌∷◌, length, filter, Some, refl}
+use Rattle.std.specs.Prelude.{◌≡◌, ℕ, zero, suc, ◌<◌, ◌≤◌, Bool, true, false, if◌then◌else◌, ◌||◌, List, [], ◌∷◌, length, filter, Option, Some, refl}
 use Rattle.std.specs.List.{AllByRecursion, list_any}
 use Rattle.std.proofs.Common.{sym, ◌∙◌, ap, arith}
 use Rattle.std.proofs.lemmas.Bool.{true≢false}
 use Rattle.exact_law.specs.Model.{IsSameTest}
-use Rattle.fixed_interval.specs.Interval.{point_span}
+use Rattle.fixed_interval.specs.Interval.{Interval, point_span}
 use Rattle.fixed_interval.specs.Rules.{one_bound, product_span}
 use Rattle.fixed_interval.specs.Sums.{both, sum_of}
 use Rattle.adjoint_pass.specs.Sweep.{Node, users, terms, sensitivity_through, sensitivity, is_in_cone_through, is_in_cone}
-use Rattle.adjoint_pass.proofs.Lists.{all_from_both, all_passing, all_filtered, map_same, any_same}
+use Rattle.adjoint_pass.proofs.Lists.{all_weaker, all_from_both, all_passing, all_filtered, map_same, any_same}
 
 -- no node uses itself or one before it
 abbrev pub AreFalling : {K : Type 0} → List (Node K) → Type 0
@@ -60,11 +60,8 @@ rising same law (m ∷ ms) h = (
 users_before : {K : Type 0} (same : K → K → Bool) → IsSameTest same → (nodes : List (Node K)) → AreFalling nodes → (n : K)
     → AllByRecursion (λ m. place same nodes m.key < place same nodes n) (users n nodes)
 users_before same law nodes h n =
-    all_passing _ (λ m. m.uses n) nodes (all_each nodes (rising same law nodes h)) where
-      all_each : (ms : List (Node _)) → AllByRecursion (λ m. (k : _) → m.uses k ≡ true → place same nodes m.key < place same nodes k) ms
-          → AllByRecursion (λ m. m.uses n ≡ true → place same nodes m.key < place same nodes n) ms
-      all_each [] k = tt
-      all_each (m ∷ ms) k = (k.0 n, all_each ms k.1)
+    all_passing (λ m. place same nodes m.key < place same nodes n) (λ m. m.uses n) nodes
+    (all_weaker _ (λ m. m.uses n ≡ true → place same nodes m.key < place same nodes n) (λ m before. before n) nodes (rising same law nodes h))
 
 -- ---- what is found turn by turn, at each key from what the turn before found at its users
 pub record IsByTurns {K V : Type 0} (nodes : List (Node K)) (found : ℕ → K → V) : Type 0 where
@@ -76,34 +73,25 @@ settled : {K V : Type 0} (same : K → K → Bool) → IsSameTest same → (node
 settled same law nodes h found turns zero n e = absurd (omega (arith, e))
 settled same law nodes h found turns (suc k) n e =
     turns.turn (suc k) k n
-    (all_from_both (λ m. place same nodes m.key < place same nodes n) (λ m. (j : _) → place same nodes j < k → found (suc k) j ≡ found k j)
-    (λ m. found (suc k) m.key ≡ found k m.key) (λ m before all. all m.key (omega (arith, before, e))) (users n nodes)
-    (users_before same law nodes h n) (everywhere (users n nodes) (λ j. settled same law nodes h found turns k j))) where
-      everywhere : {P : Type 0} (ms : List (Node _)) → P → AllByRecursion (λ m. P) ms
-      everywhere [] p = tt
-      everywhere (m ∷ ms) p = (p, everywhere ms p)
+    (all_weaker (λ m. place same nodes m.key < place same nodes n) (λ m. found (suc k) m.key ≡ found k m.key)
+    (λ m before. settled same law nodes h found turns k m.key (omega (arith, before, e))) (users n nodes) (users_before same law nodes h n))
 
 -- so after as many turns as there are nodes the users have come to their end
 users_settled : {K V : Type 0} (same : K → K → Bool) → IsSameTest same → (nodes : List (Node K)) → AreFalling nodes
     → (found : ℕ → K → V) → IsByTurns nodes found → (n : K)
     → AllByRecursion (λ m. found (length nodes) m.key ≡ found (suc (length nodes)) m.key) (users n nodes)
-users_settled same law nodes h found turns n = each (users n nodes) (users_before same law nodes h n) where
-  each : (ms : List (Node _)) → AllByRecursion (λ m. place same nodes m.key < place same nodes n) ms
-      → AllByRecursion (λ m. found (length nodes) m.key ≡ found (suc (length nodes)) m.key) ms
-  each [] k = tt
-  each (m ∷ ms) k = (
-    sym (settled same law nodes h found turns (length nodes) m.key (omega (arith, k.0, place_within same nodes n))),
-    each ms k.1,
-  )
+users_settled same law nodes h found turns n =
+    all_weaker (λ m. place same nodes m.key < place same nodes n) (λ m. found (length nodes) m.key ≡ found (suc (length nodes)) m.key)
+    (λ m before. sym (settled same law nodes h found turns (length nodes) m.key (omega (arith, before, place_within same nodes n))))
+    (users n nodes) (users_before same law nodes h n)
 
 -- ---- sensitivities
-terms_same : {K : Type 0} (f g : K → _) (n : K) (nodes : List (Node K)) → AllByRecursion (λ m. f m.key ≡ g m.key) (users n nodes)
+terms_same : {K : Type 0} (f g : K → Option Interval) (n : K) (nodes : List (Node K)) → AllByRecursion (λ m. f m.key ≡ g m.key) (users n nodes)
     → terms f n nodes ≡ terms g n nodes
-terms_same f g n nodes h = map_same _ _ (users n nodes) (each (users n nodes) h) where
-  each : (ms : List (Node _)) → AllByRecursion (λ m. f m.key ≡ g m.key) ms
-      → AllByRecursion (λ m. both (f m.key) (m.part n) product_span ≡ both (g m.key) (m.part n) product_span) ms
-  each [] k = tt
-  each (m ∷ ms) k = (ap (λ s. both s (m.part n) product_span) k.0, each ms k.1)
+terms_same f g n nodes h =
+    map_same _ _ (users n nodes)
+    (all_weaker (λ m. f m.key ≡ g m.key) (λ m. both (f m.key) (m.part n) product_span ≡ both (g m.key) (m.part n) product_span)
+    (λ m e. ap (λ s. both s (m.part n) product_span) e) (users n nodes) h)
 
 pub sensitivity-turns : {K : Type 0} (same : K → K → Bool) (nodes : List (Node K)) (y : K) → IsByTurns nodes (sensitivity_through same nodes y)
 sensitivity-turns same nodes y = record {
