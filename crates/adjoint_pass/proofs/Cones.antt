@@ -161,10 +161,10 @@ cone_uses_cone same law given p y rs closed = each rs (λ n. user_found same giv
   each (q ∷ qs) found = (at q (λ n. (found n).0), each qs (λ n. (found n).1))
 
 -- ---- nothing in a cone uses the quantity itself
-any_leads : {A : Type 0} {C : Type 0} (p : A → Bool) (xs : List A) → list_any p xs ≡ true → AllByRecursion (λ x. p x ≡ true → C) xs → C
-any_leads p [] e h = absurd (true≢false (sym e))
-any_leads p (x ∷ xs) e h = by (or_cases (p x) (list_any p xs) e) (λ f. any_leads p xs f h.1) where
-  by : (p x ≡ true) ⊎ (list_any p xs ≡ true) → (list_any p xs ≡ true → _) → _
+any_leads : {A : Type 0} (C : Type 0) (p : A → Bool) (xs : List A) → list_any p xs ≡ true → AllByRecursion (λ x. p x ≡ true → C) xs → C
+any_leads C p [] e h = absurd (true≢false (sym e))
+any_leads C p (x ∷ xs) e h = by (or_cases (p x) (list_any p xs) e) (λ f. any_leads C p xs f h.1) where
+  by : (p x ≡ true) ⊎ (list_any p xs ≡ true) → (list_any p xs ≡ true → C) → C
   by (inl f) rest = h.0 f
   by (inr f) rest = rest f
 
@@ -177,7 +177,7 @@ cone_after same law nodes h y (suc k) n e = by (or_cases (same n y) _ e) (λ m. 
       → place same nodes y ≤ place same nodes n
   by (inl f) after = rw (law.sound n y f) (omega arith)
   by (inr f) after =
-      any_leads (λ m. is_in_cone_through same nodes y k m.key) (users n nodes) f
+      any_leads (place same nodes y ≤ place same nodes n) (λ m. is_in_cone_through same nodes y k m.key) (users n nodes) f
       (all_weaker (λ m. place same nodes m.key < place same nodes n)
       (λ m. is_in_cone_through same nodes y k m.key ≡ true → place same nodes y ≤ place same nodes n)
       (λ m before g. omega (arith, before, after m.key g)) (users n nodes) (users_before same law nodes h n))

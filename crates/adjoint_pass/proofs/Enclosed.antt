@@ -43,6 +43,10 @@ spans_enclose same qs h = record {
   at : (n : _) (s : Interval) → span_at same qs n ≡ Some s → HasValueIn same qs n s
   at n s e = values_enclosed same qs h n s (enclosed_span (evaluation_of same qs n) s e)
 
+-- the exact partial derivatives of a quantity's own formula
+abbrev pub slopes : {K : Type 0} → (K → K → Bool) → List (Quantity K) → Quantity K → K → ℚ
+slopes same qs q = body_partial same (exact_value same (model_of qs)) (model_body q.body)
+
 -- ---- what holds of each quantity, the last first
 abbrev pub IsRegular : {K : Type 0} → (K → K → Bool) → Quantity K → Type 0
 IsRegular same q = BodyHasExponents q.body × KeepsNamesApart same q.body
@@ -86,12 +90,11 @@ y_once same law qs o y there =
     once_keys same law (depends_on same qs y) (reverse qs) rev.last_first y (ap is_some (rev.bodies y) ∙ there) (depends_on-itself same law qs o y)
 
 cone_partials : {K : Type 0} (same : K → K → Bool) → IsSameTest same → (qs : List (Quantity K)) → AllHaveExponents qs → AllKeepNamesApart same qs → (y : K)
-    → AllByRecursion (λ q. HasPartials (node_of same (span_at same qs) q) (body_partial same (exact_value same (model_of qs)) (model_body q.body)))
-    (cone_quantities same qs y)
+    → AllByRecursion (λ q. HasPartials (node_of same (span_at same qs) q) (slopes same qs q)) (cone_quantities same qs y)
 cone_partials same law qs h k y =
     all_filtered _ (λ q. depends_on same qs y q.key) (reverse qs)
     (all_weaker (IsRegular same) _
-    (λ q r. has_partials same law (span_at same qs) _ (has_value same (model_of qs)) (spans_enclose same qs h) q r.0 r.1)
+    (λ q r. has_partials same law (span_at same qs) (exact_value same (model_of qs)) (has_value same (model_of qs)) (spans_enclose same qs h) q r.0 r.1)
     (reverse qs) (all_reversed (IsRegular same) qs (all_regular same qs h k)))
 
 -- nothing on which y depends uses it
@@ -117,10 +120,31 @@ itself_one : {K : Type 0} (same : K → K → Bool) → IsSameTest same → (y :
 unfolding unit
 itself_one same law y = ap (λ b. cond b (of_ℤ (pos 1)) (of_ℤ (pos 0))) (law.complete y)
 
-rows_bring : {K : Type 0} (same : K → K → Bool) (v a : K → ℚ) (given : K → Option Interval) (rs : List (Quantity K)) (n : K)
-    → brought same v (model_of rs) a n ≡ brought_by (node_of same given) (λ q. body_partial same v (model_body q.body)) rs a n
+rows_bring : {K : Type 0} (same : K → K → Bool) (qs : List (Quantity K)) (a : K → ℚ) (rs : List (Quantity K)) (n : K)
+    → brought same (exact_value same (model_of qs)) (model_of rs) a n ≡ brought_by (node_of same (span_at same qs)) (slopes same qs) rs a n
 unfolding brought partial
-rows_bring same v a given rs n = total-map model_row (λ r. a r.key *ℚ partial same v r n) rs
+rows_bring same qs a rs n = total-map model_row (λ r. a r.key *ℚ partial same (exact_value same (model_of qs)) r n) rs
+
+-- the sensitivities of y that the sweep finds
+abbrev swept : {K : Type 0} → (K → K → Bool) → List (Quantity K) → K → K → ℚ
+swept same qs y = sweep same (exact_value same (model_of qs)) (model_of (cone_quantities same qs y)) (λ n. unit same n y)
+
+swept_solves : {K : Type 0} (same : K → K → Bool) → IsSameTest same → (qs : List (Quantity K)) → AreInOrder same [] qs → (y n : K)
+    → swept same qs y n ≡ unit same n y +ℚ brought_by (node_of same (span_at same qs)) (slopes same qs) (cone_quantities same qs y) (swept same qs y) n
+swept_solves same law qs o y n =
+    (sweep-backward same law (exact_value same (model_of qs)) (model_of (cone_quantities same qs y)) y (cone_in_order same law qs o y)).equation n
+    ∙ ap (λ t. unit same n y +ℚ t) (rows_bring same qs (swept same qs y) (cone_quantities same qs y) n)
+
+swept_itself : {K : Type 0} (same : K → K → Bool) → IsSameTest same → (qs : List (Quantity K)) → AreInOrder same [] qs
+    → AllHaveExponents qs → AllKeepNamesApart same qs → (y : K) → swept same qs y y ≡ of_ℤ (pos 1)
+swept_itself same law qs o h k y =
+    let cone = cone_quantities same qs y in
+    let node = node_of same (span_at same qs) in
+    let none = all_from_both (λ p. HasPartials (node p) (slopes same qs p)) (λ p. uses_of same p.body y ≡ false)
+    (λ p. slopes same qs p y ≡ of_ℤ (pos 0)) (λ p e u. e.unused y u) cone (cone_partials same law qs h k y) (y_unused same law qs o y) in
+    swept_solves same law qs o y y
+    ∙ ap₂ ◌+ℚ◌ (itself_one same law y) (nothing_brought node (slopes same qs) cone (swept same qs y) y none)
+    ∙ ring [] (Whole (pos 1) :+ Whole (pos 0)) (Whole (pos 1)) refl
 
 pub slopes_enclosed : {K : Type 0} (same : K → K → Bool) → IsSameTest same → (qs : List (Quantity K)) → AreInOrder same [] qs
     → AllHaveExponents qs → AllKeepNamesApart same qs → (y : K) → is_there same qs y ≡ true
@@ -128,17 +152,10 @@ pub slopes_enclosed : {K : Type 0} (same : K → K → Bool) → IsSameTest same
     → Holds (sensitivity_of same qs y i) (exact_slope same (model_of qs) y i)
 unfolding sensitivity_of
 slopes_enclosed same law qs o h k y there i q is =
-    let v = exact_value same (model_of qs) in
     let cone = cone_quantities same qs y in
-    let node = node_of same (span_at same qs) in
     let order = cone_in_order same law qs o y in
-    let a = sweep same v (model_of cone) (λ n. unit same n y) in
-    let back = sweep-backward same law v (model_of cone) y order in
-    let solves = λ n. back.equation n ∙ ap (λ t. unit same n y +ℚ t) (rows_bring same v a (span_at same qs) cone n) in
-    let partials = cone_partials same law qs h k y in
-    let none = all_from_both (λ p. HasPartials (node p) (body_partial same v (model_body p.body))) (λ p. uses_of same p.body y ≡ false)
-    (λ p. body_partial same v (model_body p.body) y ≡ of_ℤ (pos 0)) (λ p e u. e.unused y u) cone partials (y_unused same law qs o y) in
-    let one : a y ≡ of_ℤ (pos 1) =
-    solves y ∙ ap₂ ◌+ℚ◌ (itself_one same law y) (nothing_brought node _ cone a y none) ∙ ring [] (Whole (pos 1) :+ Whole (pos 0)) (Whole (pos 1)) refl in
-    rw (cone_of-map same qs y, gradient same law (model_of qs) (model_of cone) (cone_rows same law qs o y) order y (y_once same law qs o y there) a back i q is)
-    (sensitivity_holds same law node _ cone partials y a one solves i)
+    let back = sweep-backward same law (exact_value same (model_of qs)) (model_of cone) y order in
+    rw (cone_of-map same qs y,
+    gradient same law (model_of qs) (model_of cone) (cone_rows same law qs o y) order y (y_once same law qs o y there) (swept same qs y) back i q is)
+    (sensitivity_holds same law (node_of same (span_at same qs)) (slopes same qs) cone (cone_partials same law qs h k y) y (swept same qs y)
+    (swept_itself same law qs o h k y) (swept_solves same law qs o y) i)

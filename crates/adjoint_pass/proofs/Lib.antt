@@ -6,3 +6,5 @@ pub mod Enclosing
 pub mod Partials
 pub mod Cones
 pub mod Enclosed
+pub mod Zips
+pub mod Formulas

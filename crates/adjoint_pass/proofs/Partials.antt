@@ -135,6 +135,7 @@ part_holds same law given v known all f key h apart n = by (find (λ m. same (ke
 pub has_partials : {K : Type 0} (same : K → K → Bool) → IsSameTest same → (given : K → Option Interval) (v : K → ℚ) (known : K → Bool) → Enclose given v known
     → (q : Quantity K) → BodyHasExponents q.body → KeepsNamesApart same q.body
     → HasPartials (node_of same given q) (body_partial same v (model_body q.body))
+unfolding body_partial
 has_partials same law given v known all q h apart = by q.body h apart where
   none_uses : (f : Tree) (key : List ℕ → _) (n : _) → list_any (λ m. same m n) (map key (uses f)) ≡ false → find (λ m. same (key m) n) (uses f) ≡ None
   none_uses f key n e = none_found (λ m. same (key m) n) (uses f) (sym (any-map (λ m. same m n) key (uses f)) ∙ e)

@@ -57,7 +57,7 @@ rising same law (m ∷ ms) h = (
     by true = omega arith
     by false = omega (arith, before)
 
-users_before : {K : Type 0} (same : K → K → Bool) → IsSameTest same → (nodes : List (Node K)) → AreFalling nodes → (n : K)
+pub users_before : {K : Type 0} (same : K → K → Bool) → IsSameTest same → (nodes : List (Node K)) → AreFalling nodes → (n : K)
     → AllByRecursion (λ m. place same nodes m.key < place same nodes n) (users n nodes)
 users_before same law nodes h n =
     all_passing (λ m. place same nodes m.key < place same nodes n) (λ m. m.uses n) nodes

@@ -1,3 +1,4 @@
 -- The definitions, in the order in which to read them.
 pub mod Sweep
 pub mod Sensitivities
+pub mod Renaming
