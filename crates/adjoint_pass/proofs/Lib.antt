@@ -8,3 +8,5 @@ pub mod Cones
 pub mod Enclosed
 pub mod Zips
 pub mod Formulas
+pub mod RenamedValues
+pub mod Renamed

@@ -1,8 +1,14 @@
 -- Two lists whose elements are alike, place by place.
-use Rattle.std.specs.Prelude.{◌≡◌, Bool, true, false, cond, ◌&&◌, ◌||◌, List, [], ◌∷◌, map, filter, reverse, refl}
+use Rattle.std.specs.Prelude.{◌≡◌, suc, Bool, true, false, cond, ◌&&◌, ◌||◌, List, [], ◌∷◌, map, filter, reverse, length, refl}
 use Rattle.std.specs.List.{AllByRecursion, AllZip, list_any, list_all}
 use Rattle.std.proofs.Common.{ap, ap₂}
 use mathlib.Core.List.{reverse_aux}
+
+pub length-zip : {X Y : Type 0} (R : X → Y → Type 0) (xs : List X) (ys : List Y) → AllZip R xs ys → length xs ≡ length ys
+length-zip R [] [] z = refl
+length-zip R [] (y ∷ ys) z = absurd z
+length-zip R (x ∷ xs) [] z = absurd z
+length-zip R (x ∷ xs) (y ∷ ys) z = ap suc (length-zip R xs ys z.1)
 
 -- with what holds of the elements of the first list
 pub zip_with_all : {X Y : Type 0} (P : X → Type 0) (R S : X → Y → Type 0) → ((x : X) (y : Y) → P x → R x y → S x y)

@@ -3,4 +3,4 @@
 
 mod laws;
 
-pub use laws::sensitivities_are_enclosed;
+pub use laws::{sensitivities_are_enclosed, renaming_changes_no_evaluation, renaming_changes_no_sensitivity};
