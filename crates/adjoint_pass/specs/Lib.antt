@@ -2,3 +2,4 @@
 pub mod Sweep
 pub mod Sensitivities
 pub mod Renaming
+pub mod Worked
