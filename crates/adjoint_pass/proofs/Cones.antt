@@ -160,6 +160,16 @@ cone_uses_cone same law given p y rs closed = each rs (λ n. user_found same giv
   each [] found = tt
   each (q ∷ qs) found = (at q (λ n. (found n).0), each qs (λ n. (found n).1))
 
+-- nothing in it uses what is not
+pub outside_unused : {K : Type 0} (same : K → K → Bool) (given : K → Option Interval) (p : K → Bool) (y : K) (rs : List (Quantity K))
+    → ((n : K) → p n ≡ (same n y || list_any (λ m. p m.key) (users n (map (node_of same given) rs))))
+    → (n : K) → p n ≡ false → AllByRecursion (λ q. p q.key ≡ true → uses_of same q.body n ≡ false) rs
+outside_unused same given p y rs closed n outside =
+    all_weaker (λ q. p q.key ≡ true → uses_of same q.body n ≡ true → list_any (λ m. p m.key) (users n (map (node_of same given) rs)) ≡ true)
+    (λ q. p q.key ≡ true → uses_of same q.body n ≡ false)
+    (λ q found passes. false_from_ne_true _ (λ u. true≢false (sym (closed n ∙ or_right (same n y) _ (found passes u)) ∙ outside)))
+    rs (user_found same given p n rs)
+
 -- ---- nothing in a cone uses the quantity itself
 any_leads : {A : Type 0} (C : Type 0) (p : A → Bool) (xs : List A) → list_any p xs ≡ true → AllByRecursion (λ x. p x ≡ true → C) xs → C
 any_leads C p [] e h = absurd (true≢false (sym e))

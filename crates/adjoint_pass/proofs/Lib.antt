@@ -10,3 +10,4 @@ pub mod Zips
 pub mod Formulas
 pub mod RenamedValues
 pub mod Renamed
+pub mod Gradients

@@ -27,6 +27,10 @@ all_passing P p (x ∷ xs) h = by (p x) refl (all_passing P p xs h.1) where
 pub all_filtered : {X : Type 0} (P : X → Type 0) (p : X → Bool) (xs : List X) → AllByRecursion P xs → AllByRecursion P (filter p xs)
 all_filtered P p xs h = all_passing P p xs (all_weaker P (λ x. p x ≡ true → P x) (λ x k e. k) xs h)
 
+pub filter-none : {X : Type 0} (p : X → Bool) (xs : List X) → AllByRecursion (λ x. p x ≡ false) xs → filter p xs ≡ []
+filter-none p [] h = refl
+filter-none p (x ∷ xs) h = rw h.0 (filter-none p xs h.1)
+
 pub filter-map : {X Y : Type 0} (p : Y → Bool) (f : X → Y) (xs : List X) → filter p (map f xs) ≡ map f (filter (λ x. p (f x)) xs)
 filter-map p f [] = refl
 filter-map p f (x ∷ xs) = by (p (f x)) (filter-map p f xs) where

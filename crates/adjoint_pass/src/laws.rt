@@ -10,6 +10,7 @@ ghost use Rattle.value_cache.specs.Quantities.{Quantity, is_there};
 ghost use Rattle.value_cache.specs.Evaluations.{evaluation_of};
 ghost use Rattle.value_cache.specs.Evaluable.{AreInOrder};
 ghost use Rattle.value_cache.specs.Model.{model_of, AllHaveExponents};
+ghost use Rattle.covariance.specs.Gradients.{sensitivity};
 ghost use Rattle.adjoint_pass.specs.Sensitivities.{AllKeepNamesApart, span_at, depends_on, cone_of, sensitivity_of, has_gradient, gradient_of};
 ghost use Rattle.adjoint_pass.specs.Renaming.{AreRenamed, renamed_evaluation};
 ghost use Rattle.adjoint_pass.specs.Worked.{cubed, steep, pair, pair_by_bytes, first_byte};
@@ -20,6 +21,14 @@ pub fn sensitivities_are_enclosed<K>()
     ensures { (same : K → K → Bool) → IsSameTest same → (qs : List (Quantity K)) → AreInOrder same [] qs → AllHaveExponents qs → AllKeepNamesApart same qs
         → (y : K) → is_there same qs y ≡ true → (i : K) (q : ℚ) → model_body_of same (model_of qs) i ≡ Some (ModelInput q)
         → (s : Interval) → sensitivity_of same qs y i ≡ Some s → Encloses s (exact_slope same (model_of qs) y i) }
+{}
+
+/// Where no sensitivity of a quantity leaves the range of bounds, its gradient encloses the derivatives by all inputs:
+/// those outside it have the point 0.
+pub fn gradients_are_enclosed<K>()
+    ensures { (same : K → K → Bool) → IsSameTest same → (qs : List (Quantity K)) → AreInOrder same [] qs → AllHaveExponents qs → AllKeepNamesApart same qs
+        → (y : K) → is_there same qs y ≡ true → has_gradient same qs y ≡ true → (i : K) (q : ℚ) → model_body_of same (model_of qs) i ≡ Some (ModelInput q)
+        → Encloses (sensitivity (gradient_of same qs y) i) (exact_slope same (model_of qs) y i) }
 {}
 
 /// Quantities in order have the same evaluations under new keys that tell them apart. The fault of an evaluation
