@@ -1,11 +1,10 @@
 -- The rows of the quantities on which one depends, the last first, are an order of the model in which each stands before
 -- the rows that it uses.
-use Rattle.std.specs.Prelude.{◌≡◌, ℕ, zero, suc, ◌≤◌, ◌<◌, Bool, true, false, not, cond, if◌then◌else◌, ◌&&◌, ◌||◌, List, [], ◌∷◌, map, filter, find, length, is_some, Option, Some, None, refl}
+use Rattle.std.specs.Prelude.{◌≡◌, ℕ, zero, suc, ◌≤◌, ◌<◌, Bool, true, false, not, cond, if◌then◌else◌, ◌||◌, List, [], ◌∷◌, map, filter, find, is_some, Option, Some, None, refl}
 use Rattle.std.specs.Prelude.{◌⊎◌}
 use Rattle.std.specs.List.{AllByRecursion, list_any}
 use Rattle.std.proofs.Common.{sym, ◌∙◌, ap, arith, inl, inr}
 use Rattle.std.proofs.lemmas.Bool.{true≢false, and_from, or_cases, or_left, or_right, false_from_ne_true}
-use Rattle.std.proofs.lemmas.Option.{none-some}
 use Rattle.exact_law.specs.Model.{Key, IsSameTest, replaced, keys, absent, once, uses_only, body_uses_only, is_order, AreOf}
 use Rattle.fixed_interval.specs.Interval.{Interval}
 use Rattle.formula_ast.specs.Trees.{Tree, Number, Variable, Opposite, Joined, Raised, uses}
@@ -13,12 +12,12 @@ use Rattle.formula_ast.specs.declared.token.Sign.{Sign}
 use Rattle.formula_ast.specs.declared.token.Sign.TheVariants.{Plus, Minus, Times, Over}
 use Rattle.formula_box.specs.Exact.{expression_of}
 use Rattle.value_cache.specs.Quantities.{Body, Input, Function, Column, Quantity, body_of, is_there, used_by}
-use Rattle.value_cache.specs.Model.{model_body, model_row, model_of}
+use Rattle.value_cache.specs.Model.{model_body, model_of}
 use Rattle.value_cache.proofs.Names.{AllNames, keys_known}
 use Rattle.value_cache.proofs.Sound.{model_bodies, model-body_of}
 use Rattle.adjoint_pass.specs.Sweep.{Node, users, is_in_cone_through}
 use Rattle.adjoint_pass.specs.Sensitivities.{uses_of, node_of}
-use Rattle.adjoint_pass.proofs.Lists.{all_weaker, all_from_both, all_filtered, all_passing}
+use Rattle.adjoint_pass.proofs.Lists.{all_weaker, all_from_both}
 use Rattle.adjoint_pass.proofs.Turns.{AreFalling, place, rising, users_before}
 use Rattle.adjoint_pass.proofs.Order.{IsLastFirst, known_all}
 

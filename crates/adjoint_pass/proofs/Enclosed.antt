@@ -1,7 +1,7 @@
 -- The spans of sensitivities enclose the derivatives of the expanded formulas.
-use Rattle.std.specs.Prelude.{◌≡◌, Bool, true, false, cond, ◌||◌, is_some, List, [], ◌∷◌, map, filter, reverse, length, suc, Option, Some, None, pos, refl}
-use Rattle.std.specs.List.{AllByRecursion, list_any}
-use Rattle.std.proofs.Common.{sym, ◌∙◌, ap, ap₂, subst}
+use Rattle.std.specs.Prelude.{◌≡◌, Bool, true, false, cond, is_some, List, [], ◌∷◌, map, filter, reverse, length, suc, Option, Some, None, pos, refl}
+use Rattle.std.specs.List.{AllByRecursion}
+use Rattle.std.proofs.Common.{sym, ◌∙◌, ap, ap₂}
 use Rattle.std.proofs.lemmas.Bool.{or_left}
 use Rattle.std.proofs.lemmas.Option.{same_Some}
 use Rattle.exact_fraction.specs.Number.{ℚ, of_ℤ, ◌+ℚ◌, ◌*ℚ◌}
@@ -10,7 +10,7 @@ use Rattle.exact_fraction.proofs.Ring.{ring, Whole, ◌:+◌, ◌:*◌, x0}
 use Rattle.exact_law.specs.Model.{Input as ModelInput, IsSameTest, AreOf, is_order, once, keys, unit, exact_value, exact_slope, has_value, body_of as model_body_of, body_partial, partial, brought, sweep}
 use Rattle.exact_law.proofs.ChainRule.{gradient, sweep-backward}
 use Rattle.exact_law.proofs.RenamingLaws.{total-map}
-use Rattle.fixed_interval.specs.Interval.{Interval, Encloses}
+use Rattle.fixed_interval.specs.Interval.{Interval}
 use Rattle.fixed_interval.specs.Sums.{Holds}
 use Rattle.value_cache.specs.Quantities.{Quantity, body_of, is_there}
 use Rattle.value_cache.specs.Evaluations.{span_in, evaluation_of}
@@ -155,7 +155,9 @@ slopes_enclosed same law qs o h k y there i q is =
     let cone = cone_quantities same qs y in
     let order = cone_in_order same law qs o y in
     let back = sweep-backward same law (exact_value same (model_of qs)) (model_of cone) y order in
-    rw (cone_of-map same qs y,
-    gradient same law (model_of qs) (model_of cone) (cone_rows same law qs o y) order y (y_once same law qs o y there) (swept same qs y) back i q is)
+    rw (
+      cone_of-map same qs y,
+      gradient same law (model_of qs) (model_of cone) (cone_rows same law qs o y) order y (y_once same law qs o y there) (swept same qs y) back i q is,
+    )
     (sensitivity_holds same law (node_of same (span_at same qs)) (slopes same qs) cone (cone_partials same law qs h k y) y (swept same qs y)
     (swept_itself same law qs o h k y) (swept_solves same law qs o y) i)

@@ -1,6 +1,6 @@
 -- Of quantities in order: the sensitivities solve their equations, and a quantity depends on what the quantities on
 -- which it depends use, on itself, and on nothing else.
-use Rattle.std.specs.Prelude.{◌≡◌, Bool, true, if◌then◌else◌, ◌||◌, List, [], Some}
+use Rattle.std.specs.Prelude.{◌≡◌, Bool, if◌then◌else◌, ◌||◌, List, [], Some}
 use Rattle.std.specs.List.{list_any}
 use Rattle.exact_law.specs.Model.{IsSameTest}
 use Rattle.fixed_interval.specs.Interval.{point_span}

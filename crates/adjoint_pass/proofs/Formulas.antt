@@ -1,13 +1,13 @@
 -- A formula has the same span, and the same derivatives, where its names have the same spans.
-use Rattle.std.specs.Prelude.{◌≡◌, ℕ, Bool, List, [], ◌∷◌, ◌++◌, ◌||◌, Option, Some, None, refl}
+use Rattle.std.specs.Prelude.{◌≡◌, ℕ, List, [], ◌∷◌, ◌++◌, Option, Some, None, refl}
 use Rattle.std.specs.List.{AllByRecursion}
 use Rattle.std.proofs.Common.{ap, ap₂}
 use Rattle.fixed_interval.specs.Interval.{Interval}
 use Rattle.fixed_interval.specs.Rules.{negative_span}
 use Rattle.fixed_interval.specs.Powers.{then_span}
 use Rattle.formula_ast.specs.Trees.{Tree, Number, Variable, Opposite, Joined, Raised, uses}
-use Rattle.formula_box.specs.Values.{Answer, then_with, in_range, arithmetic, used, use_after, joined_span, span_from, span_of}
-use Rattle.formula_box.specs.Slopes.{occurs, joined_slope, power_slope, there, where_used, slope_of, partial_of}
+use Rattle.formula_box.specs.Values.{then_with, in_range, used, use_after, span_from, span_of}
+use Rattle.formula_box.specs.Slopes.{occurs, there, where_used, slope_of, partial_of}
 use Rattle.value_cache.proofs.Names.{AllNames}
 use Rattle.adjoint_pass.specs.Sensitivities.{partial_by}
 
@@ -48,8 +48,13 @@ slope_same given others n (Variable m) h = refl
 slope_same given others n (Opposite a) h =
     ap (λ d. where_used (occurs n a) (then_span d (λ s. Some (negative_span s)))) (slope_same given others n a h)
 slope_same given others n (Joined s a b) h =
-    rw (span_same given others a h.0, span_same given others b h.1, span_same given others (Joined s a b) h,
-    slope_same given others n a h.0, slope_same given others n b h.1) refl
+    rw (
+      span_same given others a h.0,
+      span_same given others b h.1,
+      span_same given others (Joined s a b) h,
+      slope_same given others n a h.0,
+      slope_same given others n b h.1,
+    ) refl
 slope_same given others n (Raised a e) h =
     rw (span_same given others a h, span_same given others (Raised a e) h, slope_same given others n a h) refl
 

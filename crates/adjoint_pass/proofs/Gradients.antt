@@ -1,5 +1,5 @@
 -- The whole gradient of a quantity: the sensitivities to what it depends on, and 0 to all else.
-use Rattle.std.specs.Prelude.{◌≡◌, Bool, true, false, not, cond, if◌then◌else◌, ◌&&◌, ◌||◌, List, [], ◌∷◌, map, filter, reverse, is_some, Option, Some, None, refl}
+use Rattle.std.specs.Prelude.{◌≡◌, Bool, true, false, cond, if◌then◌else◌, List, [], ◌∷◌, map, filter, reverse, is_some, Option, Some, None, refl}
 use Rattle.std.specs.Prelude.{◌⊎◌}
 use Rattle.std.specs.List.{AllByRecursion, list_any, list_all}
 use Rattle.std.specs.Option.{unwrap_or}
@@ -14,9 +14,9 @@ use Rattle.value_cache.specs.Quantities.{Body, Quantity, body_of, is_there}
 use Rattle.value_cache.specs.Evaluable.{AreInOrder}
 use Rattle.value_cache.specs.Model.{model_of, AllHaveExponents}
 use Rattle.value_cache.proofs.Sound.{model_bodies, model-body_of}
-use Rattle.adjoint_pass.specs.Sweep.{Node, users, terms}
+use Rattle.adjoint_pass.specs.Sweep.{users, terms}
 use Rattle.adjoint_pass.specs.Sensitivities.{uses_of, node_of, span_at, nodes_of, depends_on, cone_of, sensitivity_of, has_gradient, gradient_of, AllKeepNamesApart}
-use Rattle.adjoint_pass.proofs.Lists.{all_weaker, all_passing, all_mapped, all_unmapped, filter-none}
+use Rattle.adjoint_pass.proofs.Lists.{all_passing, all_mapped, all_unmapped, filter-none}
 use Rattle.adjoint_pass.proofs.Order.{reversed, uses_there}
 use Rattle.adjoint_pass.proofs.Equations.{sensitivity_of-solves, depends_on-closed}
 use Rattle.adjoint_pass.proofs.Cones.{outside_unused}

@@ -1,5 +1,5 @@
 -- Quantities in order, the last first: their nodes fall, and each is found under its key.
-use Rattle.std.specs.Prelude.{◌≡◌, Bool, true, false, not, cond, if◌then◌else◌, ◌||◌, List, [], ◌∷◌, ◌++◌, map, find, is_some, Option, Some, None, refl}
+use Rattle.std.specs.Prelude.{◌≡◌, Bool, true, false, not, cond, if◌then◌else◌, List, [], ◌∷◌, ◌++◌, map, find, is_some, Option, Some, None, refl}
 use Rattle.std.specs.Prelude.{◌⊎◌, reverse}
 use Rattle.std.specs.List.{AllByRecursion, list_any}
 use Rattle.std.proofs.Common.{sym, ◌∙◌, ap, subst, inl, inr}
@@ -10,10 +10,9 @@ use mathlib.Core.List.{reverse_aux}
 use mathlib.Core.Path.{fun_ext}
 use Rattle.exact_law.specs.Model.{IsSameTest}
 use Rattle.fixed_interval.specs.Interval.{Interval}
-use Rattle.value_cache.specs.Quantities.{Body, Quantity, body_of, is_there, first_unknown, used_by}
+use Rattle.value_cache.specs.Quantities.{Quantity, body_of, is_there, first_unknown, used_by}
 use Rattle.value_cache.specs.Evaluable.{AreInOrder}
-use Rattle.adjoint_pass.specs.Sweep.{Node}
-use Rattle.adjoint_pass.specs.Sensitivities.{uses_of, node_of, nodes_of}
+use Rattle.adjoint_pass.specs.Sensitivities.{uses_of, node_of}
 use Rattle.adjoint_pass.proofs.Lists.{all_weaker, all_mapped}
 use Rattle.adjoint_pass.proofs.Turns.{AreFalling}
 

@@ -1,13 +1,13 @@
 -- The span of a body's partial derivative by a quantity encloses the exact one, which is 0 by what the body does not use.
-use Rattle.std.specs.Prelude.{◌≡◌, ℕ, Bool, true, false, cond, not, ◌||◌, List, [], ◌∷◌, map, find, bytes_eq, Option, Some, None, Result, Ok, Err, pos, refl}
+use Rattle.std.specs.Prelude.{◌≡◌, ℕ, Bool, true, false, cond, not, ◌||◌, List, [], ◌∷◌, map, find, bytes_eq, Option, Some, None, Ok, Err, pos, refl}
 use Rattle.std.specs.List.{list_any}
-use Rattle.std.proofs.Common.{sym, ◌∙◌, ap, subst}
+use Rattle.std.proofs.Common.{sym, ◌∙◌, ap}
 use Rattle.std.proofs.lemmas.Bool.{true≢false, or_parts, false_from_ne_true}
 use Rattle.std.proofs.lemmas.Option.{same_Some}
 use mathlib.Core.Path.{fun_ext}
-use Rattle.exact_fraction.specs.Number.{ℚ, of_ℤ, ◌+ℚ◌, ◌*ℚ◌, inv_ℚ}
+use Rattle.exact_fraction.specs.Number.{ℚ, of_ℤ, inv_ℚ}
 use Rattle.exact_fraction.proofs.Ring.{ring, Whole, ◌:+◌, ◌:-◌, ◌:*◌, Minus as Opposite_of, x0, x1}
-use Rattle.exact_law.specs.Model.{Key, IsSameTest, unit, value, slope, power_slope, replaced, body_partial}
+use Rattle.exact_law.specs.Model.{Key, IsSameTest, unit, value, slope, power_slope, body_partial}
 use Rattle.exact_law.proofs.Chain.{slope-replaced}
 use Rattle.fixed_interval.specs.Interval.{Interval, Encloses}
 use Rattle.fixed_interval.specs.Sums.{Holds}
@@ -18,7 +18,7 @@ use Rattle.formula_ast.specs.declared.token.Sign.{Sign}
 use Rattle.formula_ast.specs.declared.token.Sign.TheVariants.{Plus, Minus, Times, Over}
 use Rattle.formula_box.specs.Values.{Answer}
 use Rattle.formula_box.specs.Slopes.{there, partial_of}
-use Rattle.formula_box.specs.Exact.{expression_of, AreEnclosed, derivative}
+use Rattle.formula_box.specs.Exact.{expression_of, derivative}
 use Rattle.formula_box.proofs.Slopes.{partial_encloses}
 use Rattle.value_cache.specs.Quantities.{Body, Input, Function, Column, Quantity}
 use Rattle.value_cache.specs.Model.{model_body, BodyHasExponents}

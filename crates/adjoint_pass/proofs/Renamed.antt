@@ -1,7 +1,6 @@
 -- Cones and sensitivities under new keys.
-use Rattle.std.specs.Prelude.{◌≡◌, ℕ, zero, suc, Bool, true, false, if◌then◌else◌, cond, ◌||◌, List, [], ◌∷◌, map, find, length, reverse, Option, Some, None, is_some, refl}
+use Rattle.std.specs.Prelude.{◌≡◌, ℕ, zero, suc, Bool, true, if◌then◌else◌, cond, ◌||◌, List, [], ◌∷◌, map, find, length, reverse, Option, Some, None, is_some, refl}
 use Rattle.std.specs.List.{AllByRecursion, AllZip, list_any}
-use Rattle.std.specs.Option.{option_map}
 use Rattle.std.proofs.Common.{sym, ◌∙◌, ap, ap₂}
 use Rattle.exact_law.specs.Model.{IsSameTest}
 use Rattle.exact_law.specs.Renaming.{KeepsApart, Passes}
@@ -12,7 +11,7 @@ use Rattle.formula_ast.specs.Trees.{Tree, uses, names_of}
 use Rattle.value_cache.specs.Quantities.{Body, Input, Function, Column, Quantity, is_there, used_by}
 use Rattle.value_cache.specs.Evaluations.{span_in, evaluation_of}
 use Rattle.value_cache.proofs.Names.{find-distinct}
-use Rattle.adjoint_pass.specs.Sweep.{Node, users, terms, sensitivity_through, sensitivity, is_in_cone_through, is_in_cone, cone}
+use Rattle.adjoint_pass.specs.Sweep.{Node, users, sensitivity_through, sensitivity, is_in_cone_through, is_in_cone, cone}
 use Rattle.adjoint_pass.specs.Sensitivities.{uses_of, partial_by, part_of, node_of, span_at, nodes_of, depends_on, cone_of, sensitivity_of, has_gradient, gradient_of}
 use Rattle.adjoint_pass.specs.Renaming.{IsRenamedBody, AreRenamed}
 use Rattle.adjoint_pass.proofs.Lists.{all_weaker, any_same}

@@ -1,24 +1,23 @@
 -- Evaluations under new keys.
-use Rattle.std.specs.Prelude.{◌≡◌, ℕ, zero, suc, Bool, true, false, if◌then◌else◌, List, [], ◌∷◌, map, length, reverse, Option, Some, None, Result, Ok, Err, is_some, refl}
+use Rattle.std.specs.Prelude.{◌≡◌, ℕ, zero, suc, Bool, true, false, if◌then◌else◌, List, [], ◌∷◌, map, length, reverse, Option, Some, None, Ok, Err, is_some, refl}
 use Rattle.std.specs.List.{AllByRecursion, AllZip}
 use Rattle.std.specs.Option.{option_or, option_map}
-use Rattle.std.proofs.Common.{sym, ◌∙◌, ap, ap₂, subst}
-use Rattle.std.proofs.lemmas.Bool.{true≢false}
+use Rattle.std.proofs.Common.{sym, ◌∙◌, ap, subst}
 use Rattle.std.proofs.lemmas.List.{reverse-reverse}
 use Rattle.exact_law.specs.Model.{IsSameTest}
 use Rattle.exact_law.specs.Renaming.{KeepsApart, Passes}
-use Rattle.fixed_interval.specs.Interval.{Interval, point_span}
+use Rattle.fixed_interval.specs.Interval.{Interval}
 use Rattle.formula_ast.specs.Trees.{Tree, uses}
 use Rattle.type_a.specs.Statistics.{mean_span}
-use Rattle.formula_box.specs.Values.{Answer, span_of}
+use Rattle.formula_box.specs.Values.{Answer}
 use Rattle.formula_box.specs.declared.fault.EvalFault.TheVariants.{Arith, NoValue}
 use Rattle.value_cache.specs.Quantities.{Body, Input, Function, Column, Quantity, body_of, is_there, used_by}
-use Rattle.value_cache.specs.Evaluations.{Found, Named, span_in, is_fault, fault_at, first_fault, settled, evaluation_of_formula, evaluation_of_body, evaluation_through, evaluation_of}
+use Rattle.value_cache.specs.Evaluations.{Found, Named, span_in, is_fault, first_fault, settled, evaluation_of_formula, evaluation_of_body, evaluation_through, evaluation_of}
 use Rattle.value_cache.specs.Evaluable.{AreInOrder}
 use Rattle.value_cache.specs.declared.evaluation.Evaluation.{Evaluation}
 use Rattle.value_cache.specs.declared.evaluation.Evaluation.TheVariants.{Enclosed, Fault}
 use Rattle.adjoint_pass.specs.Renaming.{IsRenamedBody, IsRenamed, AreRenamed, renamed_evaluation}
-use Rattle.adjoint_pass.proofs.Lists.{all_weaker, all_from_both, all_mapped, all_unmapped, all_reversed}
+use Rattle.adjoint_pass.proofs.Lists.{all_weaker, all_from_both, all_unmapped, all_reversed}
 use Rattle.adjoint_pass.proofs.Zips.{length-zip, zip_with_all}
 use Rattle.adjoint_pass.proofs.Order.{IsLastFirst, reversed, known_all, known_later}
 use Rattle.adjoint_pass.proofs.Formulas.{names_of_uses, span_same}

@@ -3,5 +3,7 @@
 
 mod laws;
 
-pub use laws::{sensitivities_are_enclosed, gradients_are_enclosed, renaming_changes_no_evaluation, renaming_changes_no_sensitivity};
-pub use laws::{worked_sensitivities, worked_overflow, worked_premises};
+pub use laws::{
+    gradients_are_enclosed, renaming_changes_no_evaluation, renaming_changes_no_sensitivity,
+    sensitivities_are_enclosed, worked_overflow, worked_premises, worked_sensitivities,
+};
