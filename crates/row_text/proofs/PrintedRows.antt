@@ -11,10 +11,10 @@ use Rattle.formula_ast.proofs.Again.{read_regular}
 use Rattle.line_text.specs.Blanks.{is_blank}
 use Rattle.line_text.specs.Words.{written_part}
 use Rattle.line_text.proofs.WrittenTexts.{run_whole, IsSolid, solid_written, solid_after, one_word, no_blanks}
-use Rattle.sheet_rows.specs.Rows.{Row, Given, Readings, Joint, Correlation, Formula}
+use Rattle.sheet_rows.specs.Rows.{Row, Given, Readings, Joint, Correlation, Formula, is_table}
 use Rattle.row_text.specs.Reading.{past_blanks, leading_name, is_in_name, begins_equals, let_of, row_at, row_from, row_read}
 use Rattle.sheet_rows.specs.Regular.{IsRegular}
-use Rattle.row_text.specs.Printing.{is_table, printed}
+use Rattle.row_text.specs.Printing.{printed}
 use Rattle.formula_ast.proofs.MovedPlaces.{read_after_blank}
 use Rattle.row_text.proofs.PlainBytes.{ArePlain, all_in_word, all_no_hash, all_in_name, names_plain, name_some}
 use Rattle.row_text.proofs.SolidTexts.{print_solid}

@@ -1,8 +1,8 @@
 -- The printed text of inputs by joint readings is read as the inputs again.
-use Rattle.std.proofs.Common.{◌≡◌, ℕ, suc, ◌+◌, ◌<◌, ◌==◌, true, false, List, [], ◌∷◌, ◌++◌, map, length, drop, take, refl, sym, ◌∙◌, ap, subst, arith, None, Ok}
+use Rattle.std.proofs.Common.{◌≡◌, ℕ, suc, ◌+◌, ◌<◌, ◌==◌, true, List, [], ◌∷◌, ◌++◌, map, length, drop, take, refl, sym, ◌∙◌, ap, subst, arith, None, Ok}
 use Rattle.std.specs.Prelude.{codes}
 use Rattle.std.specs.List.{list_all, prefix_len}
-use Rattle.std.proofs.lemmas.Bool.{and_parts}
+use Rattle.std.proofs.lemmas.Bool.{and_parts, eq-eqb}
 use Rattle.std.proofs.lemmas.Bool.Decides.{nat_tests}
 use Rattle.std.proofs.Math.Seq.{take-length}
 use mathlib.Core.List.{append-nil}
@@ -20,6 +20,7 @@ use Rattle.table_records.specs.Header.{is_column, is_header}
 use Rattle.table_records.specs.Tables.{then_read as then_records, number_in, numbers_of, row_of, rows_of, names_of, table_in, records_read}
 use Rattle.sheet_rows.specs.Rows.{Joint}
 use Rattle.sheet_rows.specs.Regular.{IsRegular, AreDecimals, AllAreDecimals}
+use Rattle.sheet_rows.proofs.Parts.{not_refused}
 use Rattle.row_text.specs.Tables.{head_name, joint_of, table_at, table_read}
 use Rattle.row_text.specs.Parts.{then_read}
 use Rattle.row_text.specs.Printing.{number_fields, line_of_fields, records_text, head_text, block_text}
@@ -73,12 +74,9 @@ same_length : (r : Record) → length (number_fields r) ≡ length r
 same_length [] = refl
 same_length (b ∷ bs) = ap suc (same_length bs)
 
-eqb_same : (n : ℕ) → (n == n) ≡ true
-eqb_same n = grind (arith, nat_tests)
-
 row_again : (width k : ℕ) (r : Record) → AreDecimals r → length r ≡ width → row_of width k (number_fields r) ≡ Ok r
 row_again width k r h e =
-    let all : (length (number_fields r) == width) ≡ true = rw (same_length r, e) (eqb_same width) in
+    let all : (length (number_fields r) == width) ≡ true = eq-eqb (length (number_fields r)) width (same_length r ∙ e) in
     rw all (numbers_again k r h)
 
 rows_again : (width k : ℕ) (t : Table) → AllAreDecimals t → AreOfWidth width t → rows_of width k (map number_fields t) ≡ Ok t
@@ -98,10 +96,6 @@ records_of_numbers : (width : ℕ) (t : Table) → 0 < width → AllAreDecimals 
 records_of_numbers width [] some h e = tt
 records_of_numbers width (r ∷ rs) some h e = (record_of_numbers width r some h.0 e.0, records_of_numbers width rs some h.1 e.1)
 
--- the first byte, which is that of a name
-byte_of_name : (byte : ℕ) → begins_name byte ≡ true → (byte == 0xEF) ≡ false
-byte_of_name byte h = grind (arith, nat_tests)
-
 block_again : (columns : List (List ℕ)) (t : Table) → list_all is_column columns ≡ true → 0 < length columns → AllAreDecimals t
     → AreOfWidth (length columns) t → records_of (block_text columns t) ≡ columns ∷ map number_fields t
 block_again [] t all some h e = absurd (omega (arith, some))
@@ -115,7 +109,7 @@ block_again ((byte ∷ bytes) ∷ names) t all some h e =
     ∙ records_again (columns ∷ below) byte (((bytes ++ after_commas names) ++ codes "\n") ++ lines_of below)
     ((columns_plain columns all).0, records_of_numbers (length columns) t some h e)
     (ap (λ line. (line ++ codes "\n") ++ lines_of below) (joined_first (byte ∷ bytes) names))
-    (byte_of_name byte (and_parts (begins_name byte) _ plain).0)
+    (not_refused begins_name byte 0xEF (and_parts (begins_name byte) _ plain).0 refl)
 
 header_some : (columns : List (List ℕ)) → is_header columns ≡ true → 0 < length columns
 header_some columns h = grind (arith, nat_tests)

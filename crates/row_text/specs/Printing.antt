@@ -1,6 +1,6 @@
 -- The printed text of a row: single blanks between its words, and numbers in their own form. A table is printed as
 -- the line that opens it, its block and the line that ends it: fields with commas between them, without blanks or quotes.
-use Rattle.std.specs.Prelude.{ℕ, Bool, true, false, List, [], ◌∷◌, ◌++◌, map, get_or, pos, codes, decimal}
+use Rattle.std.specs.Prelude.{ℕ, List, [], ◌∷◌, ◌++◌, map, get_or, pos, codes, decimal}
 use Rattle.std.specs.List.{join_with_byte}
 use Rattle.csv.specs.Writing.{comma}
 use Rattle.decimal18.specs.Bound.{Bound, scaled}
@@ -61,14 +61,6 @@ abbrev pub block_text : List (List ℕ) → Table → List ℕ
 block_text columns t = line_of_fields columns ++ records_text t
 
 -- ---- rows
--- whether the text has more than one line
-abbrev pub is_table : Row → Bool
-is_table (Given name estimate shape dof) = false
-is_table (Readings name table) = false
-is_table (Joint name columns table) = true
-is_table (Correlation name first second coefficient) = false
-is_table (Formula name f) = false
-
 abbrev pub printed : Row → List ℕ
 printed (Given name estimate shape dof) =
     codes "given " ++ name ++ codes " " ++ text_of estimate ++ codes " " ++ shape_text shape ++ degrees_text dof

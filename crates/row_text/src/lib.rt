@@ -21,7 +21,7 @@ mod worked;
 
 pub use print::print_row;
 pub use read::{read_begun_row, read_row, read_row_words};
-pub use read_joint::{read_table, read_table_words};
+pub use read_joint::{TABLE, read_table, read_table_words};
 pub use reading_laws::{printed_rows_are_read_again, rows_are_never_out_of_memory};
 pub use worked::{
     worked_correlations, worked_degrees, worked_other_kinds, worked_readings, worked_refusals,

@@ -19,7 +19,8 @@ use std::alloc::Global;
 use table_records::read_records;
 use type_a::{Readings, ReadingsFault};
 
-const TABLE: &[u8] = b"table";
+/// The word with which a line opens a table.
+pub const TABLE: &[u8] = b"table";
 
 /// The name in a line that opens a table: the word `table`, a plain name, and no word more.
 fn read_head(mut words: Words<'_>) -> Result<Name, RowFault>

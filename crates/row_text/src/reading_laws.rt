@@ -3,11 +3,11 @@
 
 ghost use Rattle.std.specs.Prelude.{◌≡◌, ◌≢◌, ◌++◌, codes, ℕ, List, false, Ok, Err};
 ghost use Rattle.type_a.specs.Tables.{Table};
-ghost use Rattle.sheet_rows.specs.Rows.{Row, Joint};
+ghost use Rattle.sheet_rows.specs.Rows.{Row, Joint, is_table};
 ghost use Rattle.row_text.specs.Reading.{row_read};
 ghost use Rattle.row_text.specs.Tables.{table_read};
 ghost use Rattle.sheet_rows.specs.Regular.{IsRegular};
-ghost use Rattle.row_text.specs.Printing.{is_table, head_text, block_text, printed};
+ghost use Rattle.row_text.specs.Printing.{head_text, block_text, printed};
 ghost use Rattle.sheet_rows.specs.declared.fault.RowFault.TheVariants.{OutOfMemory};
 
 /// The rows that lines and blocks give are regular, and the printed text of each regular row is read as the row again:
