@@ -6,10 +6,10 @@ use Rattle.std.specs.Option.{option_map}
 use Rattle.std.proofs.Math.Bool.{or-false}
 use Rattle.std.proofs.lemmas.Bool.{and_parts, and_from, and_right, not_from_true, not_from_false}
 use Rattle.sheet_rows.specs.Regular.{IsRegular, AreRegular}
-use Rattle.sheet_rows.specs.Rows.{Row, Sheet, Given, Readings, Joint, Correlation, Formula, name_of, row_part, used_names, gives, correlated_names, correlates, is_correlatable}
+use Rattle.sheet_rows.specs.Rows.{Row, Sheet, Given, Readings, Joint, Correlation, Formula, name_of, row_part, used_names, gives, is_table, correlated_names, correlates, is_correlatable}
 use Rattle.sheet_rows.specs.declared.edit_fault.EditFault.TheVariants.{InUse}
 use Rattle.sheet_edits.specs.Sheets.{IsWellFormed, is_named, has_row, is_quantity_in, is_correlatable_in, repeated_name, are_known, are_correlatable, rows_with, set_row, unless, is_left_without, unless_left}
-use Rattle.sheet_edits.specs.Places.{is_left_by, loses, has_columns, loses_nothing}
+use Rattle.sheet_edits.specs.Places.{is_left_by, loses, loses_nothing}
 use Rattle.sheet_edits.proofs.Conditions.{all_more, all_two, found_of_none, same_name, named_itself, both_ways_same}
 use Rattle.sheet_edits.proofs.Correlated.{correlatable_more, all_set}
 use Rattle.sheet_edits.proofs.Named.{holds, has_found}
@@ -60,7 +60,7 @@ module _ (old row : Row) where
     by true e = ap not (ap (gives row) (same_name n name e) ∙ still)
     by false e = refl
 
-lossless : (old row : Row) (n : List ℕ) → not (has_columns old) ≡ true → (gives row (name_of old) || not (gives old (name_of old))) ≡ true
+lossless : (old row : Row) (n : List ℕ) → not (is_table old) ≡ true → (gives row (name_of old) || not (gives old (name_of old))) ≡ true
     → loses old (Some row) n ≡ false
 lossless (Given name estimate shape dof) row n h k = sole_name (Given name estimate shape dof) row n name k
 lossless (Readings name table) row n h k = sole_name (Readings name table) row n name k
@@ -127,7 +127,7 @@ module _ (sheet : Sheet) (old row : Row) (whole : IsWellFormed sheet) (regular :
   -- ---- where nothing is lost
   pub none_left : loses_nothing old row ≡ true → unless_left (set_row row sheet) row ≡ Ok (set_row row sheet)
   none_left h =
-      let parts = and_parts (not (has_columns old)) _ h in
+      let parts = and_parts (not (is_table old)) _ h in
       let kept = and_parts (gives row (name_of old) || not (gives old (name_of old))) (is_correlatable row || not (is_correlatable old)) parts.1 in
       let known = all_more (are_known sheet.rows) (are_known edited_rows)
       (λ o. all_more (is_quantity_in sheet.rows) (is_quantity_in edited_rows)

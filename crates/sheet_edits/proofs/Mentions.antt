@@ -1,5 +1,5 @@
--- Names among those that two parts of a formula use.
-use Rattle.std.proofs.Common.{◌≡◌, ◌||◌, ℕ, Bool, List, [], ◌∷◌, ◌++◌, None, Option, Some, is_some, false, refl}
+-- Names that rows use.
+use Rattle.std.proofs.Common.{◌≡◌, ◌||◌, ℕ, List, [], ◌∷◌, None, Option, Some, is_some, false, refl}
 use Rattle.std.specs.Option.{option_map_or}
 use Rattle.std.proofs.Math.Bool.{and-true}
 use Rattle.sheet_rows.specs.Rows.{Row, gives}
@@ -7,8 +7,8 @@ use Rattle.sheet_edits.specs.Places.{loses}
 use Rattle.std.specs.List.{list_any}
 use Rattle.std.proofs.lemmas.List.Folds.{list_any-append}
 
-pub any_of_both : (p : List ℕ → Bool) (a b : List (List ℕ)) → list_any p (a ++ b) ≡ (list_any p a || list_any p b)
-any_of_both p a b = list_any-append p a b
+-- a name among those that two parts of a formula use
+pub ruleset used_by_both = (list_any-append)
 
 -- where nothing is in the place of the old row, its quantities are lost
 pub lost_to_none : (old : Row) (us : List (List ℕ)) → list_any (loses old None) us ≡ list_any (gives old) us

@@ -1,9 +1,9 @@
 -- What the edits of the code answer, and how it finds names by their places.
-use Rattle.std.specs.Prelude.{◌≡◌, ◌≢◌, ℕ, Bool, true, false, ◌||◌, ◌&&◌, not, if◌then◌else◌, nat_lt, List, find, position, Option, None, Some, Result, Ok, Err}
+use Rattle.std.specs.Prelude.{◌≡◌, ◌≢◌, ℕ, Bool, false, ◌||◌, ◌&&◌, not, if◌then◌else◌, nat_lt, List, find, position, Option, None, Some, Result, Ok, Err}
 use Rattle.std.specs.List.{list_any}
 use Rattle.std.specs.Option.{option_or}
 use Rattle.line_text.specs.Memory.{Gives}
-use Rattle.sheet_rows.specs.Rows.{Row, Sheet, Given, Readings, Joint, Correlation, Formula, row_of, name_of, row_part, used_names, names_used, gives, correlated_names, correlates, is_correlatable}
+use Rattle.sheet_rows.specs.Rows.{Row, Sheet, row_of, name_of, row_part, used_names, names_used, gives, is_table, correlated_names, correlates, is_correlatable}
 use Rattle.sheet_edits.specs.Sheets.{Verdict, is_named, has_quantity, is_correlatable_in, repeated_name, first_correlated, unless}
 use Rattle.sheet_rows.specs.declared.row.Row.{Row as CodeRow}
 use Rattle.sheet_rows.specs.declared.edit_fault.EditFault.{EditFault}
@@ -68,18 +68,10 @@ is_left_by old row other =
     not (is_named (name_of row) other)
     && (list_any (loses old (Some row)) (used_names other) || (not (is_correlatable row) && correlates other (name_of row)))
 
--- the row has quantities under other names than its own
-abbrev pub has_columns : Row → Bool
-has_columns (Given name estimate shape dof) = false
-has_columns (Readings name table) = false
-has_columns (Joint name columns table) = true
-has_columns (Correlation name first second coefficient) = false
-has_columns (Formula name formula) = false
-
--- the old row has no columns, and its name is a quantity, and that of an input that may be correlated, where it was one
+-- the old row is no table, and its name is a quantity, and that of an input that may be correlated, where it was one
 abbrev pub loses_nothing : Row → Row → Bool
 loses_nothing old row =
-    not (has_columns old)
+    not (is_table old)
     && ((gives row (name_of old) || not (gives old (name_of old))) && (is_correlatable row || not (is_correlatable old)))
 
 -- the refusals by the names of the row, which is put at the place

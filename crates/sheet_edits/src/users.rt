@@ -29,7 +29,7 @@ fn loses(old: &Row, new: Option<&Row>, name: &Name) -> bool
 }
 
 /// Whether such a name stands in the formula.
-#[tactic(auto, using(crate::proofs::Mentions::any_of_both))]
+#[tactic(auto, using(crate::proofs::Mentions::used_by_both))]
 fn mentions_lost(f: &Formula, old: &Row, new: Option<&Row>) -> bool
     ensures { result ≡ list_any (loses (row_of old.now) (option_map (λ row. row_of row.now) new.entry)) (uses (tree_of f.now)) }
 {

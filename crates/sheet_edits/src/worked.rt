@@ -44,7 +44,7 @@ pub fn worked_settings()
     ensures column { verdict_set (sheet (table 84 (65 ∷ 66 ∷ []) ∷ same_as_column 70 84 66 ∷ [])) (table 84 (65 ∷ [])) ≡ Err (InUse (named 70)) }
     ensures columns_moved { verdict_set (sheet (table 84 (65 ∷ 66 ∷ []) ∷ same_as_column 70 84 66 ∷ [])) (table 84 (66 ∷ 65 ∷ 67 ∷ []))
         ≡ Ok (sheet (table 84 (66 ∷ 65 ∷ 67 ∷ []) ∷ same_as_column 70 84 66 ∷ [])) }
-    ensures column_later { verdict_set (sheet (same_as_column 70 84 66 ∷ [])) (same_as_column 70 84 66) ≡ Err (Unknown (84 ∷ 46 ∷ 66 ∷ [])) }
+    ensures no_table { verdict_set (sheet (same_as_column 70 84 66 ∷ [])) (same_as_column 70 84 66) ≡ Err (Unknown (84 ∷ 46 ∷ 66 ∷ [])) }
     ensures input_for_columns { verdict_set (sheet (table 84 (65 ∷ 66 ∷ []) ∷ same_as_column 70 84 66 ∷ [])) (std 84) ≡ Err (InUse (named 70)) }
     ensures unused { verdict_set (sheet (inputs ++ std 68 ∷ [])) (correlation 68 66 67 5) ≡ Ok (sheet (inputs ++ correlation 68 66 67 5 ∷ [])) }
     ensures itself { verdict_set (sheet (inputs ++ std 68 ∷ [])) (correlation 68 66 68 5) ≡ Err (Unknown (named 68)) }
