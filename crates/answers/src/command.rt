@@ -17,8 +17,8 @@ pub enum Edit {
 pub enum Query {
     /// What interval encloses the value of the quantity of this name?
     Value(Name),
-    /// What interval encloses the sensitivity of the quantity of the first name to the input of the second, the
-    /// partial derivative of JCGM 100:2008, 5.1.3?
+    /// What interval encloses the sensitivity of the quantity of the first name to the input of the second (JCGM
+    /// 100:2008, 5.1.3)?
     Sensitivity(Name, Name),
     /// Which rows are there?
     Dump,

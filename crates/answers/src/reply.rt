@@ -8,15 +8,15 @@ use sheet_rows::{EditFault, RowList};
 pub enum Answer {
     /// The value of the quantity of this name is in this interval, in the quantity's own unit.
     Value(Name, Span),
-    /// The sensitivity of the quantity of the first name to the input of the second is in this interval, in the
-    /// unit of the one by that of the other.
+    /// The sensitivity of the quantity of the first name to the input of the second (JCGM 100:2008, 5.1.3) is in this
+    /// interval, in the unit of the quantity for one unit of the input.
     Sensitivity(Name, Name, Span),
     /// These are the rows, in their order.
     Dump(RowList),
     /// The quantity has no interval: this fault arose in the row of this name.
     ValueFault(ArithFault, Name),
-    /// The quantity has an interval for its value, and an operation that the law of propagation asks for beyond
-    /// it leaves the range of bounds.
+    /// The quantity has an interval, but an operation that the law of propagation asks for leaves the range of bounds:
+    /// our own rule.
     LawOverflow,
 }
 
