@@ -4,3 +4,5 @@ pub mod Evaluable
 pub mod Cells
 pub mod Model
 pub mod WorkedQuantities
+pub mod Rules
+pub mod Slots

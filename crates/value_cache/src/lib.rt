@@ -6,12 +6,16 @@
 //! body: it finds the evaluations of a sheet's quantities by their names, row by row.
 #![tactic(auto)]
 
+mod body;
+mod cache;
 mod evaluation;
 mod laws;
 #[cfg(test)]
 mod tests;
 mod values;
 
+pub use body::Body;
+pub use cache::Cache;
 pub use evaluation::Evaluation;
 pub use laws::{
     distinct_names_find_the_same, order_changes_nothing, unknown_has_no_value, values_are_enclosed,
