@@ -19,7 +19,7 @@ use Rattle.value_cache.specs.declared.evaluation.Evaluation.TheVariants.{Enclose
 use Rattle.value_cache.proofs.Names.{AllNames, AllNames-map}
 
 -- ---- a formula is evaluated alike where its names are
-span_same : (given others : List ℕ → Option Interval) (k : ℕ) (f : Tree) → AllNames (λ n. given n ≡ others n) f
+pub span_same : (given others : List ℕ → Option Interval) (k : ℕ) (f : Tree) → AllNames (λ n. given n ≡ others n) f
     → span_from given k f ≡ span_from others k f
 span_same given others k (Number q) h = refl
 span_same given others k (Variable n) h = ap (used k) h

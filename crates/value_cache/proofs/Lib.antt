@@ -3,3 +3,8 @@ pub mod Faults
 pub mod Evaluable
 pub mod Sound
 pub mod Adding
+pub mod Rules
+pub mod Numbers
+pub mod Orders
+pub mod Graphs
+mod Filling

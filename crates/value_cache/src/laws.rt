@@ -1,11 +1,14 @@
-ghost use Rattle.std.specs.Prelude.{◌≡◌, ℕ, Bool, false, List, Some, bytes_eq, find, length, map, pos};
+ghost use Rattle.std.specs.Prelude.{◌≡◌, ℕ, Bool, false, List, Some, bytes_eq, find, length, map, nat_eq, pos};
+ghost use Rattle.dep_graph.specs.Nodes.{Node, ids_of};
 ghost use Rattle.fixed_interval.specs.Interval.{Interval};
 ghost use Rattle.formula_ast.specs.Trees.{distinct};
 ghost use Rattle.type_a.specs.WorkedTables.{eleven, span};
 ghost use Rattle.value_cache.specs.Quantities.{Quantity, body_of, is_there};
-ghost use Rattle.value_cache.specs.Evaluations.{evaluation_of};
+ghost use Rattle.value_cache.specs.Evaluations.{Found, evaluation_of};
 ghost use Rattle.value_cache.specs.Model.{AllHaveExponents, HasValueIn};
+ghost use Rattle.value_cache.specs.Rules.{Bodies, AreRight, IsGraphOf, numbered};
 ghost use Rattle.value_cache.specs.WorkedQuantities.{five, mean_of, x_name};
+ghost use Rattle.value_cache.specs.declared.evaluation.Evaluation.{Evaluation};
 ghost use Rattle.value_cache.specs.declared.evaluation.Evaluation.TheVariants.{Enclosed};
 
 /// Where a quantity has a span, its expanded formula has a value, and the span encloses it.
@@ -33,6 +36,12 @@ pub fn order_changes_nothing<K>()
 pub fn distinct_names_find_the_same<K>()
     ensures { (p : K → Bool) (key : List ℕ → K) (ns : List (List ℕ))
         → find p (map key (distinct ns)) ≡ find p (map key ns) }
+{}
+
+/// A cell that is kept is the evaluation of its quantity among all quantities of the graph.
+pub fn fresh_cells_are_evaluations()
+    ensures { (nodes : List Node) (bodies : Bodies) (cells : Found ℕ) → IsGraphOf nodes bodies → AreRight bodies cells
+        → (n : ℕ) (cell : Evaluation ℕ) → cells n ≡ Some cell → evaluation_of nat_eq (numbered bodies (ids_of nodes)) n ≡ Some cell }
 {}
 
 /// The means of two columns of readings: of 0.012, 0.010, 0.011, 0.013 and 0.009 it is 0.011, and of ten times

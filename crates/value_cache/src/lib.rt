@@ -12,13 +12,15 @@ mod evaluation;
 mod laws;
 #[cfg(test)]
 mod tests;
+mod through;
 mod values;
 
 pub use body::Body;
 pub use cache::Cache;
 pub use evaluation::Evaluation;
 pub use laws::{
-    distinct_names_find_the_same, order_changes_nothing, unknown_has_no_value, values_are_enclosed,
-    worked_columns,
+    distinct_names_find_the_same, fresh_cells_are_evaluations, order_changes_nothing,
+    unknown_has_no_value, values_are_enclosed, worked_columns,
 };
+pub use through::Through;
 pub use values::Values;

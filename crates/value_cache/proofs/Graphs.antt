@@ -1,0 +1,129 @@
+-- Graphs of bodies, as quantities are placed one by one.
+use Rattle.std.specs.Prelude.{◌≡◌, ℕ, Bool, true, false, ◌||◌, not, if◌then◌else◌, nat_eq, List, [], ◌∷◌, ◌++◌, find, is_some, Option, Some, None, refl}
+use Rattle.std.proofs.Common.{arith, sym, ◌∙◌, ap, subst}
+use Rattle.std.proofs.lemmas.Bool.{true≢false}
+use Rattle.std.proofs.lemmas.Bool.Decides.{nat_tests}
+use Rattle.std.proofs.lemmas.List.{append_assoc, append-nil, map-append}
+use mathlib.Core.Path.{fun_ext}
+use Rattle.dep_graph.specs.Nodes.{Node, has, ids_of, uses_in}
+use Rattle.value_cache.specs.Quantities.{Body, Quantity, is_there, first_unknown, used_by}
+use Rattle.value_cache.specs.Evaluable.{AreInOrder}
+use Rattle.value_cache.specs.Rules.{Bodies, uses_of, before, numbered, IsGraphOf}
+use Rattle.value_cache.proofs.Rules.{or-right, has-first}
+use Rattle.value_cache.proofs.Orders.{body_of-numbered, numbered-last, has-last}
+
+pub graph-empty : (bodies : Bodies) → ((n : ℕ) → bodies n ≡ None) → IsGraphOf [] bodies
+graph-empty bodies none = record {
+  placed = λ n. ap is_some (sym (none n));
+  uses = λ n m. ap (λ b. has (uses_of b) m) (sym (none n));
+  earlier = tt;
+}
+
+-- the same bodies at each number
+pub graph-same : (nodes : List Node) (bodies new : Bodies) → ((n : ℕ) → new n ≡ bodies n) → IsGraphOf nodes bodies → IsGraphOf nodes new
+graph-same nodes bodies new same graph = subst (IsGraphOf nodes) (sym (fun_ext same)) graph
+
+-- ---- one quantity more
+-- after those that are in order, one of a new key that uses these alone
+order-last : {K : Type 0} (same : K → K → Bool) (done qs : List (Quantity K)) (q : Quantity K) → AreInOrder same done qs
+    → is_there same (done ++ qs) q.key ≡ false → first_unknown same (done ++ qs) (used_by q.body) ≡ None → AreInOrder same done (qs ++ q ∷ [])
+order-last same done [] q order new used =
+    let none : done ++ [] ≡ done = append-nil done in
+    (ap (λ l. is_there same l q.key) (sym none) ∙ new, ap (λ l. first_unknown same l (used_by q.body)) (sym none) ∙ used, tt)
+order-last same done (first ∷ qs) q order new used =
+    let turned : done ++ first ∷ [] ++ qs ≡ done ++ (first ∷ qs) = append_assoc done (first ∷ []) qs in
+    (
+      order.0,
+      order.1,
+      order-last same (done ++ first ∷ []) qs q order.2 (ap (λ l. is_there same l q.key) turned ∙ new)
+      (ap (λ l. first_unknown same l (used_by q.body)) turned ∙ used),
+    )
+
+all-known : (known : ℕ → Bool) (ns : List ℕ) → ((m : ℕ) → has ns m ≡ true → known m ≡ true) → find (λ n. not (known n)) ns ≡ None
+all-known known [] h = refl
+all-known known (n ∷ ns) h = rw (h n (has-first n ns)) (all-known known ns (λ m t. h m (or-right (nat_eq m n) (has ns m) t)))
+
+none-when : {X : Type 0} (o : Option X) → is_some o ≡ false → o ≡ None
+none-when None h = refl
+none-when (Some x) h = absurd (true≢false h)
+
+numbered-same : (bodies new : Bodies) (ns : List ℕ) → ((n : ℕ) → has ns n ≡ true → new n ≡ bodies n) → numbered new ns ≡ numbered bodies ns
+numbered-same bodies new [] same = refl
+numbered-same bodies new (n ∷ ns) same =
+    ap (λ b. before n b (numbered new ns)) (same n (has-first n ns))
+    ∙ ap (before n (bodies n)) (numbered-same bodies new ns (λ m h. same m (or-right (nat_eq m n) (has ns m) h)))
+
+uses-last : (nodes : List Node) (node : Node) (n : ℕ)
+    → uses_in (nodes ++ node ∷ []) n ≡ (if has (ids_of nodes) n then uses_in nodes n else if nat_eq n node.id then node.uses else [])
+uses-last [] node n = refl
+uses-last (first ∷ nodes) node n = by (nat_eq n first.id) (uses-last nodes node n) where
+  by : (t : Bool) → uses_in (nodes ++ node ∷ []) n ≡ (if has (ids_of nodes) n then uses_in nodes n else if nat_eq n node.id then node.uses else [])
+      → (if t then first.uses else uses_in (nodes ++ node ∷ []) n)
+      ≡ (if t || has (ids_of nodes) n then (if t then first.uses else uses_in nodes n) else if nat_eq n node.id then node.uses else [])
+  by true rest = refl
+  by false rest = rest
+
+-- a quantity is placed after those that it uses
+pub graph-added : (nodes : List Node) (bodies new : Bodies) (node : Node) (body : Body ℕ) → IsGraphOf nodes bodies → bodies node.id ≡ None
+    → ((n : ℕ) → new n ≡ (if nat_eq n node.id then Some body else bodies n)) → ((m : ℕ) → has node.uses m ≡ has (used_by body) m)
+    → ((m : ℕ) → has node.uses m ≡ true → has (ids_of nodes) m ≡ true) → IsGraphOf (nodes ++ node ∷ []) new
+graph-added nodes bodies new node body graph none added uses used = record { placed = placed; uses = each; earlier = earlier } where
+  all : ids_of (nodes ++ node ∷ []) ≡ ids_of nodes ++ node.id ∷ []
+  all = map-append (λ node. node.id) nodes (node ∷ [])
+
+  absent : has (ids_of nodes) node.id ≡ false
+  absent = graph.placed node.id ∙ ap is_some none
+
+  here : new node.id ≡ Some body
+  here = let t : nat_eq node.id node.id ≡ true = grind (arith, nat_tests) in added node.id ∙ ap (λ t. if t then Some body else bodies node.id) t
+
+  -- of another number nothing changes
+  there : (n : ℕ) → nat_eq n node.id ≡ false → new n ≡ bodies n
+  there n q = added n ∙ ap (λ t. if t then Some body else bodies n) q
+
+  other : (n : ℕ) → has (ids_of nodes) n ≡ true → (t : Bool) → nat_eq n node.id ≡ t → t ≡ false
+  other n h true q = let e : n ≡ node.id = grind (arith, nat_tests) in absurd (true≢false (sym h ∙ ap (has (ids_of nodes)) e ∙ absent))
+  other n h false q = refl
+
+  placed-by : (n : ℕ) (t : Bool) → nat_eq n node.id ≡ t → (has (ids_of nodes) n || t) ≡ is_some (if t then Some body else bodies n)
+  placed-by n true q = or-right (has (ids_of nodes) n) true refl
+  placed-by n false q = or-false (has (ids_of nodes) n) ∙ graph.placed n where
+    or-false : (a : Bool) → (a || false) ≡ a
+    or-false true = refl
+    or-false false = refl
+
+  placed : (n : ℕ) → has (ids_of (nodes ++ node ∷ [])) n ≡ is_some (new n)
+  placed n =
+      ap (λ l. has l n) all ∙ has-last (ids_of nodes) node.id n ∙ placed-by n (nat_eq n node.id) refl
+      ∙ ap is_some (sym (added n))
+
+  each-by : (n m : ℕ) (t : Bool) → nat_eq n node.id ≡ t → (s : Bool) → has (ids_of nodes) n ≡ s
+      → has (if s then uses_in nodes n else if t then node.uses else []) m ≡ has (uses_of (new n)) m
+  each-by n m t q true r = graph.uses n m ∙ ap (λ b. has (uses_of b) m) (sym (there n (q ∙ other n r t q)))
+  each-by n m true q false r =
+      let e : node.id ≡ n = grind (arith, nat_tests) in
+      uses m ∙ ap (λ b. has (uses_of b) m) (sym (ap new (sym e) ∙ here))
+  each-by n m false q false r =
+      let no : bodies n ≡ None = none-when (bodies n) (sym (graph.placed n) ∙ r) in
+      ap (λ b. has (uses_of b) m) (sym (there n q ∙ no))
+
+  each : (n m : ℕ) → has (uses_in (nodes ++ node ∷ []) n) m ≡ has (uses_of (new n)) m
+  each n m = ap (λ l. has l m) (uses-last nodes node n) ∙ each-by n m (nat_eq n node.id) refl (has (ids_of nodes) n) refl
+
+  known : (m : ℕ) → has (used_by body) m ≡ true → is_there nat_eq (numbered bodies (ids_of nodes)) m ≡ true
+  known m h =
+      let t : has (ids_of nodes) m ≡ true = used m (uses m ∙ h) in
+      ap is_some (body_of-numbered bodies (ids_of nodes) m ∙ ap (λ t. if t then bodies m else None) t) ∙ sym (graph.placed m) ∙ t
+
+  earlier : AreInOrder nat_eq [] (numbered new (ids_of (nodes ++ node ∷ [])))
+  earlier =
+      let first : numbered new (ids_of nodes) ≡ numbered bodies (ids_of nodes) =
+          numbered-same bodies new (ids_of nodes) (λ n h. there n (other n h (nat_eq n node.id) refl)) in
+      let list : numbered new (ids_of (nodes ++ node ∷ [])) ≡ numbered bodies (ids_of nodes) ++ record { key = node.id; body = body } ∷ [] =
+          ap (numbered new) all ∙ numbered-last new (ids_of nodes) node.id body here
+          ∙ ap (λ qs. qs ++ record { key = node.id; body = body } ∷ []) first in
+      let free : is_there nat_eq (numbered bodies (ids_of nodes)) node.id ≡ false =
+          ap is_some (body_of-numbered bodies (ids_of nodes) node.id ∙ ap (λ t. if t then bodies node.id else None) absent) in
+      subst (AreInOrder nat_eq []) (sym list)
+      (order-last nat_eq [] (numbered bodies (ids_of nodes)) (record { key = node.id; body = body }) graph.earlier free
+      (all-known (is_there nat_eq (numbered bodies (ids_of nodes))) (used_by body) known))
