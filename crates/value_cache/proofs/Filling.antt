@@ -1,5 +1,5 @@
 -- Finding cells from the end of a list, each of which uses those after it alone.
-use Rattle.std.specs.Prelude.{◌≡◌, ℕ, zero, suc, ◌+◌, ◌≤◌, ◌<◌, Bool, true, false, ◌||◌, if◌then◌else◌, nat_eq, List, [], ◌∷◌, drop, length, get_or, is_some, sum_by, Option, Some, None, refl}
+use Rattle.std.specs.Prelude.{◌≡◌, ℕ, zero, suc, ◌+◌, ◌≤◌, ◌<◌, Bool, true, false, ◌||◌, if◌then◌else◌, nat_eq, List, [], ◌∷◌, drop, length, get_or, is_some, Option, Some, None, refl}
 use Rattle.std.proofs.Common.{arith, sym, ◌∙◌, ap, subst}
 use Rattle.std.proofs.lemmas.Bool.{true≢false}
 use Rattle.std.proofs.lemmas.Bool.Decides.{nat_tests}
@@ -65,7 +65,7 @@ filled-step placed new last old now after list start i steps more x f low at bod
     let here : drop i list ≡ x ∷ drop (suc i) list = drop-here list i x low at in
     let split : (n : ℕ) → has (drop i list) n ≡ (nat_eq n x || has (drop (suc i) list) n) = λ n. ap (λ l. has l n) here in
     let cost : work placed old (drop i list) ≡ work placed old (x ∷ []) + work placed old (drop (suc i) list) =
-        ap (work placed old) here ∙ work-cons placed old x (drop (suc i) list) in
+    ap (work placed old) here ∙ work-cons placed old x (drop (suc i) list) in
     record {
       bodies = λ n. bodies n ∙ f.bodies n;
       kept = λ n cell h. kept n cell (f.kept n cell h);

@@ -31,12 +31,11 @@ order-last same done [] q order new used =
     let none : done ++ [] ≡ done = append-nil done in
     (ap (λ l. is_there same l q.key) (sym none) ∙ new, ap (λ l. first_unknown same l (used_by q.body)) (sym none) ∙ used, tt)
 order-last same done (first ∷ qs) q order new used =
-    let turned : done ++ first ∷ [] ++ qs ≡ done ++ (first ∷ qs) = append_assoc done (first ∷ []) qs in
-    (
+    let turned : done ++ first ∷ [] ++ qs ≡ done ++ (first ∷ qs) = append_assoc done (first ∷ []) qs in (
       order.0,
       order.1,
       order-last same (done ++ first ∷ []) qs q order.2 (ap (λ l. is_there same l q.key) turned ∙ new)
-      (ap (λ l. first_unknown same l (used_by q.body)) turned ∙ used),
+          (ap (λ l. first_unknown same l (used_by q.body)) turned ∙ used),
     )
 
 all-known : (known : ℕ → Bool) (ns : List ℕ) → ((m : ℕ) → has ns m ≡ true → known m ≡ true) → find (λ n. not (known n)) ns ≡ None
@@ -118,12 +117,12 @@ graph-added nodes bodies new node body graph none added uses used = record { pla
   earlier : AreInOrder nat_eq [] (numbered new (ids_of (nodes ++ node ∷ [])))
   earlier =
       let first : numbered new (ids_of nodes) ≡ numbered bodies (ids_of nodes) =
-          numbered-same bodies new (ids_of nodes) (λ n h. there n (other n h (nat_eq n node.id) refl)) in
+      numbered-same bodies new (ids_of nodes) (λ n h. there n (other n h (nat_eq n node.id) refl)) in
       let list : numbered new (ids_of (nodes ++ node ∷ [])) ≡ numbered bodies (ids_of nodes) ++ record { key = node.id; body = body } ∷ [] =
-          ap (numbered new) all ∙ numbered-last new (ids_of nodes) node.id body here
-          ∙ ap (λ qs. qs ++ record { key = node.id; body = body } ∷ []) first in
+      ap (numbered new) all ∙ numbered-last new (ids_of nodes) node.id body here
+      ∙ ap (λ qs. qs ++ record { key = node.id; body = body } ∷ []) first in
       let free : is_there nat_eq (numbered bodies (ids_of nodes)) node.id ≡ false =
-          ap is_some (body_of-numbered bodies (ids_of nodes) node.id ∙ ap (λ t. if t then bodies node.id else None) absent) in
+      ap is_some (body_of-numbered bodies (ids_of nodes) node.id ∙ ap (λ t. if t then bodies node.id else None) absent) in
       subst (AreInOrder nat_eq []) (sym list)
       (order-last nat_eq [] (numbered bodies (ids_of nodes)) (record { key = node.id; body = body }) graph.earlier free
       (all-known (is_there nat_eq (numbered bodies (ids_of nodes))) (used_by body) known))

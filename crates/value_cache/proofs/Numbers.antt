@@ -1,8 +1,8 @@
 -- Names that stand for numbers, and the evaluation of a formula through them.
-use Rattle.std.specs.Prelude.{◌≡◌, ◌+◌, ◌<◌, ℕ, zero, suc, Bool, true, false, ◌||◌, not, if◌then◌else◌, List, [], ◌∷◌, map, find, filter, drop, length, get_or, slice_get, nat_eq, bytes_eq, is_some, Option, Some, None, Ok, Err, refl}
+use Rattle.std.specs.Prelude.{◌≡◌, ◌+◌, ◌<◌, ℕ, zero, suc, Bool, true, false, ◌||◌, not, if◌then◌else◌, List, [], ◌∷◌, map, find, filter, drop, length, get_or, nat_eq, bytes_eq, is_some, Option, Some, None, Ok, Err, refl}
 use Rattle.std.specs.List.{list_all, list_any}
 use Rattle.std.specs.Option.{option_or, option_and_then, unwrap_or}
-use Rattle.std.proofs.Common.{arith, sym, ◌∙◌, ap, ap₂, subst}
+use Rattle.std.proofs.Common.{arith, sym, ◌∙◌, ap, subst}
 use Rattle.std.proofs.lemmas.Bool.{true≢false, and_parts}
 use Rattle.std.proofs.lemmas.Slice.Eq.{bytes_eq-Decides}
 use Rattle.formula_ast.specs.Trees.{Tree, uses, distinct, names_of}

@@ -1,5 +1,5 @@
 -- Quantities in order: cones, and what is kept of them.
-use Rattle.std.specs.Prelude.{◌≡◌, ℕ, zero, suc, ◌+◌, ◌≤◌, Bool, true, false, ◌||◌, not, if◌then◌else◌, nat_eq, List, [], ◌∷◌, ◌++◌, length, find, filter, reverse, is_some, Option, Some, None, refl}
+use Rattle.std.specs.Prelude.{◌≡◌, ℕ, zero, suc, ◌≤◌, Bool, true, false, ◌||◌, not, if◌then◌else◌, nat_eq, List, [], ◌∷◌, ◌++◌, length, find, filter, is_some, Option, Some, None, refl}
 use Rattle.std.proofs.Common.{arith, sym, ◌∙◌, ap, subst}
 use Rattle.std.proofs.lemmas.Bool.{true≢false}
 use Rattle.std.proofs.lemmas.Bool.Decides.{nat_tests}
@@ -7,13 +7,13 @@ use Rattle.std.proofs.lemmas.List.{append_assoc, append-nil}
 use Rattle.std.proofs.lemmas.Option.{none-some}
 use mathlib.Core.List.{reverse_aux}
 use Rattle.dep_graph.specs.Nodes.{Node, has, ids_of, uses_in}
-use Rattle.dep_graph.specs.Reaching.{IsChain, Reaches, DependsOn, IsCone}
-use Rattle.value_cache.specs.Quantities.{Body, Quantity, body_of, is_there, first_unknown, used_by}
+use Rattle.dep_graph.specs.Reaching.{IsChain, IsCone}
+use Rattle.value_cache.specs.Quantities.{Body, Quantity, body_of, is_there, used_by}
 use Rattle.value_cache.specs.Evaluations.{Found, evaluation_of_body, evaluation_through, evaluation_of}
 use Rattle.value_cache.specs.Evaluable.{AreInOrder}
-use Rattle.value_cache.specs.Rules.{Bodies, uses_of, are_found, cell_by, AreRight, before, numbered, IsGraphOf, AreFalling}
+use Rattle.value_cache.specs.Rules.{Bodies, uses_of, AreRight, before, numbered, IsGraphOf, AreFalling}
 use Rattle.value_cache.specs.declared.evaluation.Evaluation.{Evaluation}
-use Rattle.value_cache.proofs.Rules.{or-left, or-right, has-first, found-each, body-same, cell-found, cell-evaluates, used-found, has-body}
+use Rattle.value_cache.proofs.Rules.{or-right, has-first, found-each, body-same, cell-found, cell-evaluates, used-found, has-body}
 
 -- ---- quantities by numbers
 pub body_of-numbered : (bodies : Bodies) (ns : List ℕ) (n : ℕ) → body_of nat_eq (numbered bodies ns) n ≡ (if has ns n then bodies n else None)
@@ -82,7 +82,7 @@ next bodies done n ns there order = by (bodies n) refl there where
   by None e h = absurd (true≢false (sym h))
   by (Some body) e h =
       let whole : AreInOrder nat_eq (numbered bodies done) (record { key = n; body = body } ∷ numbered bodies ns) =
-          subst (λ b. AreInOrder nat_eq (numbered bodies done) (before n b (numbered bodies ns))) e order in
+      subst (λ b. AreInOrder nat_eq (numbered bodies done) (before n b (numbered bodies ns))) e order in
       record {
         used = λ m used. there-numbered bodies done m
             (found-none (is_there nat_eq (numbered bodies done)) (used_by body) whole.1 m (ap (λ b. has (uses_of b) m) (sym e) ∙ used));
@@ -124,8 +124,8 @@ through-last bodies cells right qs done n placed used through = record { each = 
       let rule = right.each n cell is in
       let all = cell-found cells n (bodies n) cell rule in
       let same : (m : ℕ) → has (uses_of (bodies n)) m ≡ true → evaluation_through nat_eq qs k m ≡ cells m = λ m u.
-          let some = is-some (cells m) (found-each cells (uses_of (bodies n)) all m u) in
-          through.each k m some.0 low (used m u) some.1 ∙ sym some.1 in
+      let some = is-some (cells m) (found-each cells (uses_of (bodies n)) all m u) in
+      through.each k m some.0 low (used m u) some.1 ∙ sym some.1 in
       ap (evaluation_of_body (evaluation_through nat_eq qs k) n) placed
       ∙ body-same (evaluation_through nat_eq qs k) cells n (bodies n) same
       ∙ sym (cell-evaluates cells n (bodies n) all)
@@ -162,7 +162,7 @@ right-evaluation nodes bodies cells graph right n cell is =
     let qs : List (Quantity ℕ) = numbered bodies ids in
     let there : (m : ℕ) → has ids m ≡ true → is_some (bodies m) ≡ true = λ m h. sym (graph.placed m) ∙ h in
     let placed : (m : ℕ) → is_some (bodies m) ≡ true → body_of nat_eq qs m ≡ bodies m =
-        λ m h. body_of-numbered bodies ids m ∙ ap (λ t. if t then bodies m else None) (graph.placed m ∙ h) in
+    λ m h. body_of-numbered bodies ids m ∙ ap (λ t. if t then bodies m else None) (graph.placed m ∙ h) in
     let all = through-all bodies cells right qs placed [] ids there graph.earlier (record { each = λ k m c low h. absurd (true≢false (sym h)) }) in
     all.each (length qs) n cell (omega (arith, length-numbered bodies ids there)) (graph.placed n ∙ has-body bodies cells right n cell is) is
 
@@ -197,7 +197,7 @@ or-turned false false c h more = absurd (true≢false (sym h))
 falling-step : (bodies : Bodies) (p : ℕ → Bool) → ((n m : ℕ) → p n ≡ true → has (uses_of (bodies n)) m ≡ true → p m ≡ true)
     → (done ns after : List ℕ) (n : ℕ) → IsNext bodies done n ns → ((m : ℕ) → has done m ≡ true → p m ≡ true → has after m ≡ true) → AreFalling bodies after
     → ((after : List ℕ) → ((m : ℕ) → has (done ++ n ∷ []) m ≡ true → p m ≡ true → has after m ≡ true) → AreFalling bodies after
-      → AreFalling bodies (reverse_aux (filter p ns) after))
+    → AreFalling bodies (reverse_aux (filter p ns) after))
     → (t : Bool) → p n ≡ t → AreFalling bodies (reverse_aux (filter p (n ∷ ns)) after)
 falling-step bodies p closed done ns after n step found falling rest true q =
     rw q (rest (n ∷ after) (λ m h pass. or-turned (has done m) (nat_eq m n) (has after m) (sym (has-last done n m) ∙ h) (λ d. found m d pass))
@@ -231,8 +231,8 @@ way-of nodes bodies y cone graph is =
     let ids : List ℕ = ids_of nodes in
     let there : (n : ℕ) → has ids n ≡ true → is_some (bodies n) ≡ true = λ n h. sym (graph.placed n) ∙ h in
     let closed : (n m : ℕ) → has cone n ≡ true → has (uses_of (bodies n)) m ≡ true → has cone m ≡ true = λ n m h used.
-        let far = (is.exactly n).0 h in
-        (is.exactly m).1 (record { chain = far.chain ++ m ∷ []; is = chain-more (uses_in nodes) far.chain y n m far.is (graph.uses n m ∙ used) }) in
+    let far = (is.exactly n).0 h in
+    (is.exactly m).1 (record { chain = far.chain ++ m ∷ []; is = chain-more (uses_in nodes) far.chain y n m far.is (graph.uses n m ∙ used) }) in
     record {
       placed = λ n h. there n (has-filter (has cone) ids n (or-false (has (filter (has cone) ids) n) false (has-turned (filter (has cone) ids) [] n (ap (λ l. has l n) (sym is.falling) ∙ h)) refl));
       falling = subst (AreFalling bodies) (sym is.falling)

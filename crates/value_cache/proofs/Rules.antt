@@ -1,6 +1,6 @@
 -- Cells under the rule of one row.
 use Rattle.std.specs.Prelude.{◌≡◌, ℕ, Bool, true, false, ◌||◌, ◌&&◌, if◌then◌else◌, nat_eq, List, [], ◌∷◌, ◌++◌, map, is_some, Option, Some, None, refl}
-use Rattle.std.proofs.Common.{arith, sym, ◌∙◌, ap, subst}
+use Rattle.std.proofs.Common.{arith, sym, ◌∙◌, ap}
 use Rattle.std.proofs.lemmas.Bool.{true≢false, and_parts}
 use Rattle.std.proofs.lemmas.Bool.Decides.{nat_tests}
 use Rattle.std.proofs.lemmas.List.{map-append}
@@ -33,8 +33,7 @@ AllNames-used P key (Variable n) h = h (key n) (has-first (key n) [])
 AllNames-used P key (Opposite a) h = AllNames-used P key a h
 AllNames-used P key (Joined s a b) h =
     let split : (m : ℕ) → has (map key (uses a ++ uses b)) m ≡ (has (map key (uses a)) m || has (map key (uses b)) m) =
-        λ m. ap (λ ms. has ms m) (map-append key (uses a) (uses b)) ∙ list_any-append (nat_eq m) (map key (uses a)) (map key (uses b)) in
-    (
+    λ m. ap (λ ms. has ms m) (map-append key (uses a) (uses b)) ∙ list_any-append (nat_eq m) (map key (uses a)) (map key (uses b)) in (
       AllNames-used P key a (λ m t. h m (split m ∙ or-left (has (map key (uses a)) m) (has (map key (uses b)) m) t)),
       AllNames-used P key b (λ m t. h m (split m ∙ or-right (has (map key (uses a)) m) (has (map key (uses b)) m) t)),
     )
