@@ -29,7 +29,7 @@ pub enum MarkFault {
 pub enum AskFault {
     /// No mark has this name.
     NoMark(Name),
-    /// No quantity has this name, or, where the name is that of an input, no input.
+    /// No quantity has this name; or no elementary input has, where one is asked for.
     NoSuchResult(Name),
     /// There was no memory for the answer.
     OutOfMemory,
