@@ -7,8 +7,7 @@ ghost use Rattle.script_lines.specs.Blocks.{begin_table, words_open, opens_block
 
 use crate::verb::SET;
 use line_text::{Words, after, is_blank, written_part};
-
-const TABLE: &[u8] = b"table";
+use row_text::TABLE;
 
 /// Whether the next word is `table`.
 fn begin_table(mut words: Words<'_>) -> bool
