@@ -12,14 +12,14 @@ use Rattle.row_text.specs.Tables.{table_at}
 use Rattle.row_text.proofs.NoMemory.{row_never, table_never}
 use Rattle.answers.specs.Commands.{Add, Set, Remove, Change, Undo, Redo, Mark, Restore, Ask, AskAt}
 use Rattle.answers.specs.declared.command.Query.{Query}
-use Rattle.answers.specs.declared.command.Query.TheVariants.{Value, Dump}
+use Rattle.answers.specs.declared.command.Query.TheVariants.{Value, Sensitivity, Dump}
 use Rattle.answers.specs.declared.fault.LineFault.{LineFault}
 use Rattle.answers.specs.declared.fault.LineFault.TheVariants.{Syntax, Row as RowRefused, LongLine as LineTooLong, LongTable as TableTooLong, UnclosedTable as TableUnclosed, NotBuilt, OutOfMemory}
 use Rattle.script_lines.specs.declared.item.Item.{Item}
 use Rattle.script_lines.specs.declared.item.Item.TheVariants.{Line, Block, LongLine, LongTable, UnclosedTable}
 use Rattle.script_lines.specs.declared.verb.Verb.{Verb}
 use Rattle.script_lines.specs.declared.verb.Verb.TheVariants.{Set as SetVerb, Remove as RemoveVerb, Undo as UndoVerb, Redo as RedoVerb, Mark as MarkVerb, Restore as RestoreVerb, At as AtVerb, Ask as AskVerb, Row as RowVerb}
-use Rattle.script_lines.specs.Commands.{Read, mapped, alone, no_more, sole_name, is_other_query, value_query, query_with, query_of, query_at, verb_of, row_of_line, adding, setting, command_with, line_with, line_read, block_with, block_read, command_read}
+use Rattle.script_lines.specs.Commands.{Read, mapped, then_read, alone, no_more, name_word, sole_name, is_other_query, value_query, sensitivity_query, query_with, query_of, query_at, verb_of, row_of_line, adding, setting, command_with, line_with, line_read, block_with, block_read, command_read}
 
 abbrev IsNoMemory : LineFault → Type 0
 IsNoMemory OutOfMemory = ⊥
@@ -38,6 +38,10 @@ mapped_failed : {A B : Type 0} (make : A → B) (r : Read A) → IfFailed r → 
 mapped_failed make (Ok x) h = tt
 mapped_failed make (Err fault) h = h
 
+then_failed : {A B : Type 0} (r : Read A) (next : A → Read B) → IfFailed r → ((x : A) → IfFailed (next x)) → IfFailed (then_read r next)
+then_failed (Ok x) next h k = k x
+then_failed (Err fault) next h k = h
+
 cond_failed : {A : Type 0} (t : Bool) (a b : Read A) → IfFailed a → IfFailed b → IfFailed (cond t a b)
 cond_failed true a b h k = h
 cond_failed false a b h k = k
@@ -46,19 +50,29 @@ alone_failed : {A : Type 0} (x : A) (ws : List Word) → IfFailed (alone x ws)
 alone_failed x [] = tt
 alone_failed x (w ∷ ws) = tt
 
+word_failed : (end : ℕ) (ws : List Word) → IfFailed (name_word end ws)
+word_failed end [] = tt
+word_failed end (w ∷ ws) =
+    cond_failed (is_name w.text) (Ok (record { item = w.text; rest = ws })) (Err (Syntax (w.place + 1))) tt tt
+
 name_failed : (end : ℕ) (ws : List Word) → IfFailed (sole_name end ws)
 name_failed end [] = tt
 name_failed end (w ∷ ws) = cond_failed (is_plain_name w.text) (alone w.text ws) (Err (Syntax (w.place + 1))) (alone_failed w.text ws) tt
 
 value_failed : (end : ℕ) (ws : List Word) → IfFailed (value_query end ws)
-value_failed end [] = tt
-value_failed end (w ∷ ws) = cond_failed (is_name w.text) (alone (Value w.text) ws) (Err (Syntax (w.place + 1))) (alone_failed (Value w.text) ws) tt
+value_failed end ws = then_failed (name_word end ws) _ (word_failed end ws) (λ name. alone_failed (Value name.item) name.rest)
+
+sensitivity_failed : (end : ℕ) (ws : List Word) → IfFailed (sensitivity_query end ws)
+sensitivity_failed end ws =
+    then_failed (name_word end ws) _ (word_failed end ws) (λ name.
+    then_failed (name_word end name.rest) _ (word_failed end name.rest) (λ input. alone_failed (Sensitivity name.item input.item) input.rest))
 
 query_failed : (end : ℕ) (w : Word) (ws : List Word) → IfFailed (query_with end w ws)
 query_failed end w ws =
     cond_failed (bytes_eq w.text (codes "value")) (value_query end ws) _ (value_failed end ws)
+    (cond_failed (bytes_eq w.text (codes "sens")) (sensitivity_query end ws) _ (sensitivity_failed end ws)
     (cond_failed (bytes_eq w.text (codes "dump")) (alone Dump ws) _ (alone_failed Dump ws)
-    (cond_failed (is_other_query w.text) (Err NotBuilt) (Err (Syntax (w.place + 1))) tt tt))
+    (cond_failed (is_other_query w.text) (Err NotBuilt) (Err (Syntax (w.place + 1))) tt tt)))
 
 query_of_failed : (end : ℕ) (ws : List Word) → IfFailed (query_of end ws)
 query_of_failed end [] = tt

@@ -4,12 +4,12 @@ use Rattle.std.specs.Prelude.{ℕ, ◌+◌, ◌||◌, Bool, false, if◌then◌e
 use Rattle.formula_ast.specs.Names.{is_plain_name, is_name}
 use Rattle.line_text.specs.Words.{Word, words_from, written_part}
 use Rattle.sheet_rows.specs.Rows.{Row}
-use Rattle.row_text.specs.Parts.{Read as ReadRow}
+use Rattle.row_text.specs.Parts.{Read as ReadRow, Parsed}
 use Rattle.row_text.specs.Reading.{take_memory, row_at}
 use Rattle.row_text.specs.Tables.{table_at, is_head}
 use Rattle.answers.specs.Commands.{Command, Add, Set, Remove, Change, Undo, Redo, Mark, Restore, Ask, AskAt}
 use Rattle.answers.specs.declared.command.Query.{Query}
-use Rattle.answers.specs.declared.command.Query.TheVariants.{Value, Dump}
+use Rattle.answers.specs.declared.command.Query.TheVariants.{Value, Sensitivity, Dump}
 use Rattle.answers.specs.declared.fault.LineFault.{LineFault}
 use Rattle.answers.specs.declared.fault.LineFault.TheVariants.{Syntax, Row as RowRefused, LongLine as LineTooLong, LongTable as TableTooLong, UnclosedTable as TableUnclosed, NotBuilt}
 use Rattle.script_lines.specs.declared.item.Item.{Item}
@@ -24,6 +24,10 @@ abbrev pub mapped : {A B : Type 0} → (A → B) → Read A → Read B
 mapped make (Ok x) = Ok (make x)
 mapped make (Err fault) = Err fault
 
+abbrev pub then_read : {A B : Type 0} → Read A → (A → Read B) → Read B
+then_read (Ok x) next = next x
+then_read (Err fault) next = Err fault
+
 -- ---- words after the first. `end` is the length of the line without its comment and its last blanks
 -- no word more
 abbrev pub alone : {A : Type 0} → A → List Word → Read A
@@ -32,6 +36,11 @@ alone x (w ∷ ws) = Err (Syntax (w.place + 1))
 
 abbrev pub no_more : List Word → Read (Unit {0})
 no_more ws = alone tt ws
+
+-- a name, which may be that of a table's column
+abbrev pub name_word : ℕ → List Word → Read (Parsed (List ℕ))
+name_word end [] = Err (Syntax (end + 1))
+name_word end (w ∷ ws) = if is_name w.text then Ok (record { item = w.text; rest = ws }) else Err (Syntax (w.place + 1))
 
 -- a plain name, and no word more
 abbrev pub sole_name : ℕ → List Word → Read (List ℕ)
@@ -42,7 +51,7 @@ sole_name end (w ∷ ws) = if is_plain_name w.text then alone w.text ws else Err
 -- words that begin a query of the language that this version does not have
 abbrev pub is_other_moment : List ℕ → Bool
 is_other_moment text =
-    bytes_eq text (codes "var") || (bytes_eq text (codes "cov") || (bytes_eq text (codes "r") || bytes_eq text (codes "sens")))
+    bytes_eq text (codes "var") || (bytes_eq text (codes "cov") || bytes_eq text (codes "r"))
 
 abbrev pub is_other_result : List ℕ → Bool
 is_other_result text =
@@ -53,17 +62,24 @@ abbrev pub is_other_query : List ℕ → Bool
 is_other_query text = is_other_moment text || is_other_result text
 
 abbrev pub is_query_word : List ℕ → Bool
-is_query_word text = bytes_eq text (codes "value") || (bytes_eq text (codes "dump") || is_other_query text)
+is_query_word text =
+    bytes_eq text (codes "value") || (bytes_eq text (codes "sens") || (bytes_eq text (codes "dump") || is_other_query text))
 
--- the name whose value is asked for; a column's may be asked for too
+-- the name whose value is asked for
 abbrev pub value_query : ℕ → List Word → Read Query
-value_query end [] = Err (Syntax (end + 1))
-value_query end (w ∷ ws) = if is_name w.text then alone (Value w.text) ws else Err (Syntax (w.place + 1))
+value_query end ws = then_read (name_word end ws) (λ name. alone (Value name.item) name.rest)
+
+-- the name of the quantity whose sensitivity is asked for, and that of the input to which it is
+abbrev pub sensitivity_query : ℕ → List Word → Read Query
+sensitivity_query end ws =
+    then_read (name_word end ws) (λ name.
+    then_read (name_word end name.rest) (λ input. alone (Sensitivity name.item input.item) input.rest))
 
 -- the query that the word `w` begins
 abbrev pub query_with : ℕ → Word → List Word → Read Query
 query_with end w ws =
     if bytes_eq w.text (codes "value") then value_query end ws else
+    if bytes_eq w.text (codes "sens") then sensitivity_query end ws else
     if bytes_eq w.text (codes "dump") then alone Dump ws else
     if is_other_query w.text then Err NotBuilt else Err (Syntax (w.place + 1))
 

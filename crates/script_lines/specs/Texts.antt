@@ -1,6 +1,7 @@
 -- The texts of replies, each of whole lines.
 use Rattle.std.specs.Prelude.{◌≡◌, ◌⊎◌, ℕ, List, [], ◌∷◌, ◌++◌, codes, decimal}
 use Rattle.decimal18.specs.Text.{text_of}
+use Rattle.fixed_interval.specs.Interval.{Interval}
 use Rattle.fixed_interval.specs.declared.faults.ArithFault.{ArithFault}
 use Rattle.fixed_interval.specs.declared.faults.ArithFault.TheVariants.{ZeroDivisor, Overflow}
 use Rattle.sheet_rows.specs.Rows.{Row}
@@ -18,7 +19,7 @@ use Rattle.answers.specs.declared.fault.MarkFault.TheVariants.{MarksFull, NoMark
 use Rattle.answers.specs.declared.fault.AskFault.{AskFault}
 use Rattle.answers.specs.declared.fault.AskFault.TheVariants.{NoMark as AskNoMark, NoSuchResult, OutOfMemory as AskMemory}
 use Rattle.answers.specs.declared.reply.Answer.{Answer}
-use Rattle.answers.specs.declared.reply.Answer.TheVariants.{Value, Dump, ValueFault}
+use Rattle.answers.specs.declared.reply.Answer.TheVariants.{Value, Sensitivity, Dump, ValueFault, LawOverflow}
 use Rattle.answers.specs.declared.reply.Reply.{Reply}
 use Rattle.answers.specs.declared.reply.Reply.TheVariants.{Fine, Line, Edit, History, Mark, Ask, Said}
 
@@ -96,10 +97,16 @@ abbrev pub text_of_rows : List Row → List ℕ
 text_of_rows [] = []
 text_of_rows (row ∷ rows) = printed row ++ codes "\n" ++ text_of_rows rows
 
+-- the ends of an interval, each after a space
+abbrev pub text_of_span : Interval → List ℕ
+text_of_span span = codes " " ++ text_of span.lo ++ codes " " ++ text_of span.hi ++ codes "\n"
+
 abbrev pub text_of_answer : Answer → List ℕ
-text_of_answer (Value name span) = codes "value " ++ name ++ codes " " ++ text_of span.lo ++ codes " " ++ text_of span.hi ++ codes "\n"
+text_of_answer (Value name span) = codes "value " ++ name ++ text_of_span span
+text_of_answer (Sensitivity name input span) = codes "sens " ++ name ++ codes " " ++ input ++ text_of_span span
 text_of_answer (Dump rows) = text_of_rows rows ++ codes "ok\n"
 text_of_answer (ValueFault fault row) = named (arithmetic_words fault) row
+text_of_answer LawOverflow = codes "fault law_overflow\n"
 
 -- ---- replies
 abbrev pub text_of_reply : Reply → List ℕ

@@ -4,7 +4,7 @@ ghost use Rattle.sheet_rows.specs.Rows.{row_of};
 ghost use Rattle.sheet_rows.specs.Regular.{AreRegular};
 ghost use Rattle.answers.specs.Replies.{IsRegularAnswer, IsRegularReply};
 ghost use Rattle.answers.specs.declared.reply.Answer.{Answer};
-ghost use Rattle.script_lines.specs.Texts.{arithmetic_words, text_of_rows, text_of_answer, text_of_reply, SaysOutOfMemory};
+ghost use Rattle.script_lines.specs.Texts.{arithmetic_words, text_of_rows, text_of_span, text_of_answer, text_of_reply, SaysOutOfMemory};
 
 use crate::print_fault::{
     put_ask_fault, put_edit_fault, put_history_fault, put_line_fault, put_mark_fault, put_named,
@@ -37,15 +37,39 @@ fn put_number(alloc: Global, text: &mut Bytes, number: Dec) -> Result<(), OutOfM
     text.extend_from_slice(number.print(alloc)?.as_slice())
 }
 
+/// Puts the ends of an interval at the end, and ends the line.
+fn put_span(alloc: Global, text: &mut Bytes, span: &Span) -> Result<(), OutOfMemory>
+    ensures { OnOk result (text.new ≡ text.old ++ text_of_span span.now) }
+{
+    put_number(alloc, text, span.lo())?;
+    put_number(alloc, text, span.hi())?;
+    text.extend_from_slice(b"\n")
+}
+
 /// Puts the interval of a quantity at the end.
 fn put_value(alloc: Global, text: &mut Bytes, name: &Name, span: &Span) -> Result<(), OutOfMemory>
     ensures { OnOk result (text.new ≡ text.old ++ text_of_answer (Answer.Value name.now span.now)) }
 {
     text.extend_from_slice(b"value ")?;
     text.extend_from_slice(name.as_bytes())?;
-    put_number(alloc, text, span.lo())?;
-    put_number(alloc, text, span.hi())?;
-    text.extend_from_slice(b"\n")
+    put_span(alloc, text, span)
+}
+
+/// Puts the interval of a sensitivity at the end.
+fn put_sensitivity(
+    alloc: Global,
+    text: &mut Bytes,
+    name: &Name,
+    input: &Name,
+    span: &Span,
+) -> Result<(), OutOfMemory>
+    ensures { OnOk result (text.new ≡ text.old ++ text_of_answer (Answer.Sensitivity name.now input.now span.now)) }
+{
+    text.extend_from_slice(b"sens ")?;
+    text.extend_from_slice(name.as_bytes())?;
+    text.extend_from_slice(b" ")?;
+    text.extend_from_slice(input.as_bytes())?;
+    put_span(alloc, text, span)
 }
 
 /// Puts the rows at the end, a line each.
@@ -66,11 +90,13 @@ fn put_answer(alloc: Global, text: &mut Bytes, answer: &Answer) -> Result<(), Ou
 {
     match answer {
         Answer::Value(name, span) => put_value(alloc, text, name, span),
+        Answer::Sensitivity(name, input, span) => put_sensitivity(alloc, text, name, input, span),
         Answer::Dump(rows) => {
             put_rows(alloc, text, rows.as_slice())?;
             text.extend_from_slice(b"ok\n")
         }
         Answer::ValueFault(fault, row) => put_named(text, arithmetic_words(fault), row),
+        Answer::LawOverflow => text.extend_from_slice(b"fault law_overflow\n"),
     }
 }
 

@@ -99,7 +99,7 @@ fn lines_of_the_most_bytes_and_one_more(rt: HostRuntime) -> Result<(), Fail> {
 }
 
 /// Lines that are no commands, and why. Places are counted from 1.
-const REFUSED: [(&str, LineFault); 20] = [
+const REFUSED: [(&str, LineFault); 23] = [
     ("undo\r", LineFault::Row(RowFault::Syntax(1))),
     ("dump x", LineFault::Syntax(6)),
     ("undo 1", LineFault::Syntax(6)),
@@ -115,6 +115,9 @@ const REFUSED: [(&str, LineFault); 20] = [
     ("at M undo", LineFault::Syntax(6)),
     ("report X", LineFault::NotBuilt),
     ("value 5", LineFault::Syntax(7)),
+    ("sens T.V ", LineFault::Syntax(9)),
+    ("sens Y 5", LineFault::Syntax(8)),
+    ("at M sens Y X Z", LineFault::Syntax(15)),
     ("set", LineFault::Row(RowFault::Syntax(4))),
     ("set undo", LineFault::Row(RowFault::Syntax(5))),
     ("set given X 5 foo", LineFault::Row(RowFault::Syntax(15))),
@@ -123,7 +126,7 @@ const REFUSED: [(&str, LineFault); 20] = [
 ];
 
 /// Lines that are commands, what each does, and the name of its row, quantity or mark.
-const READ: [(&str, &str, &str); 10] = [
+const READ: [(&str, &str, &str); 11] = [
     ("given X 5 std 1 # a note", "add", "X"),
     ("set let Y=5", "set", "Y"),
     ("remove X", "remove", "X"),
@@ -132,6 +135,7 @@ const READ: [(&str, &str, &str); 10] = [
     ("mark M", "mark", "M"),
     ("restore M", "restore", "M"),
     ("value T.V", "value", "T.V"),
+    ("sens Y T.V", "sens", "Y"),
     ("dump", "dump", ""),
     ("at M value X", "at", "M"),
 ];
@@ -147,6 +151,7 @@ fn parts_of(command: &Command) -> (&'static str, Option<Name>) {
         Command::Mark(name) => ("mark", Some(*name)),
         Command::Restore(name) => ("restore", Some(*name)),
         Command::Ask(Query::Value(name)) => ("value", Some(*name)),
+        Command::Ask(Query::Sensitivity(name, _)) => ("sens", Some(*name)),
         Command::Ask(Query::Dump) => ("dump", None),
         Command::AskAt(name, _) => ("at", Some(*name)),
     }
@@ -284,5 +289,7 @@ fn answers_are_printed(rt: HostRuntime) -> Result<(), Fail> {
     );
     let fault = Answer::ValueFault(ArithFault::Overflow, name);
     assert!(rt; prints(alloc, Reply::Said(fault), "fault overflow T.V\n")?);
+    let fault = Answer::LawOverflow;
+    assert!(rt; prints(alloc, Reply::Said(fault), "fault law_overflow\n")?);
     Ok(())
 }

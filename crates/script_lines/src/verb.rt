@@ -21,6 +21,8 @@ pub(crate) enum Verb {
 
 pub(crate) const VALUE: &[u8] = b"value";
 
+pub(crate) const SENS: &[u8] = b"sens";
+
 pub(crate) const DUMP: &[u8] = b"dump";
 
 // What begins a query of the language that this version does not have.
@@ -30,13 +32,11 @@ const COV: &[u8] = b"cov";
 
 const R: &[u8] = b"r";
 
-const SENS: &[u8] = b"sens";
-
 /// Whether the word begins a query for an uncertainty that this version does not have.
 fn is_other_moment(word: &[u8]) -> bool
     ensures { result ≡ is_other_moment word.now }
 {
-    word == VAR || word == COV || word == R || word == SENS
+    word == VAR || word == COV || word == R
 }
 
 const DOF: &[u8] = b"dof";
@@ -67,7 +67,7 @@ pub(crate) fn is_other_query(word: &[u8]) -> bool
 fn is_query_word(word: &[u8]) -> bool
     ensures { result ≡ is_query_word word.now }
 {
-    word == VALUE || word == DUMP || is_other_query(word)
+    word == VALUE || word == SENS || word == DUMP || is_other_query(word)
 }
 
 pub(crate) const SET: &[u8] = b"set";

@@ -1,11 +1,11 @@
 //! The words after the first of a line, which has no comment and no last blanks. Each part takes its words, and
 //! nothing may stand after it.
 
-ghost use Rattle.std.specs.Prelude.{◌≡◌, ◌<◌, ◌^◌, length};
+ghost use Rattle.std.specs.Prelude.{◌≡◌, ◌<◌, ◌^◌, length, Ok, Err, IfOk, IfErr};
 ghost use Rattle.line_text.specs.Words.{word_of, words_left};
-ghost use Rattle.script_lines.specs.Commands.{alone, sole_name, value_query, query_with, query_of, query_at};
+ghost use Rattle.script_lines.specs.Commands.{alone, name_word, sole_name, value_query, sensitivity_query, query_with, query_of, query_at};
 
-use crate::verb::{DUMP, VALUE, is_other_query};
+use crate::verb::{DUMP, SENS, VALUE, is_other_query};
 use answers::{LineFault, Query};
 use formula_ast::Name;
 use line_text::{Word, Words};
@@ -33,17 +33,37 @@ pub(crate) fn read_name(mut words: Words<'_>) -> Result<Name, LineFault>
     alone(name, words)
 }
 
-/// The name whose value is asked for.
-fn read_value(mut words: Words<'_>) -> Result<Query, LineFault>
-    ensures { result ≡ value_query (length words.entry.line) (words_left words.entry) }
+/// A name, which may be that of a table's column.
+fn next_name(words: &mut Words<'_>) -> Result<Name, LineFault>
+    ensures ok { IfOk result (λ name. name_word (length words.old.line) (words_left words.old)
+        ≡ Ok (record { item = name; rest = words_left words.new })) }
+    ensures err { IfErr result (λ fault. name_word (length words.old.line) (words_left words.old) ≡ Err fault) }
+    ensures line { words.new.line ≡ words.old.line }
 {
     let Some(word) = words.next() else {
         return Err(LineFault::Syntax(words.end() + 1));
     };
-    let Some(name) = Name::new(word.text) else {
-        return Err(LineFault::Syntax(word.place + 1));
-    };
+    match Name::new(word.text) {
+        Some(name) => Ok(name),
+        None => Err(LineFault::Syntax(word.place + 1)),
+    }
+}
+
+/// The name whose value is asked for.
+fn read_value(mut words: Words<'_>) -> Result<Query, LineFault>
+    ensures { result ≡ value_query (length words.entry.line) (words_left words.entry) }
+{
+    let name = next_name(&mut words)?;
     alone(Query::Value(name), words)
+}
+
+/// The names of the quantity and of the input whose sensitivity is asked for.
+fn read_sensitivity(mut words: Words<'_>) -> Result<Query, LineFault>
+    ensures { result ≡ sensitivity_query (length words.entry.line) (words_left words.entry) }
+{
+    let name = next_name(&mut words)?;
+    let input = next_name(&mut words)?;
+    alone(Query::Sensitivity(name, input), words)
 }
 
 /// The query that the word `first` begins.
@@ -53,6 +73,9 @@ pub(crate) fn read_begun_query(first: &Word<'_>, words: Words<'_>) -> Result<Que
 {
     if first.text == VALUE {
         return read_value(words);
+    }
+    if first.text == SENS {
+        return read_sensitivity(words);
     }
     if first.text == DUMP {
         return alone(Query::Dump, words);

@@ -11,7 +11,7 @@ ghost use Rattle.decimal18.specs.Bound.{scaled};
 ghost use Rattle.sheet_rows.specs.declared.fault.RowFault.{RowFault};
 ghost use Rattle.sheet_rows.specs.declared.edit_fault.EditFault.{EditFault};
 ghost use Rattle.answers.specs.Commands.{Change, Add, Set, Remove, Undo, Redo, Mark, Restore, Ask, AskAt};
-ghost use Rattle.answers.specs.declared.command.Query.TheVariants.{Value, Dump};
+ghost use Rattle.answers.specs.declared.command.Query.TheVariants.{Value, Sensitivity, Dump};
 ghost use Rattle.answers.specs.declared.fault.LineFault.{LineFault};
 ghost use Rattle.answers.specs.declared.fault.HistoryFault.{HistoryFault};
 ghost use Rattle.answers.specs.declared.fault.MarkFault.{MarkFault};
@@ -87,8 +87,10 @@ pub fn worked_commands()
     ensures remove { command_read (Line (codes "remove X")) ≡ Ok (Some (Change (Remove (codes "X")))) }
     ensures value { command_read (Line (codes "value X")) ≡ Ok (Some (Ask (Value (codes "X")))) }
     ensures column { command_read (Line (codes "value T.V")) ≡ Ok (Some (Ask (Value (codes "T.V")))) }
+    ensures sensitivity { command_read (Line (codes "sens Y X # 5.1.3")) ≡ Ok (Some (Ask (Sensitivity (codes "Y") (codes "X")))) }
     ensures dump { command_read (Line (codes "dump")) ≡ Ok (Some (Ask Dump)) }
     ensures at_value { command_read (Line (codes "at M value T.V")) ≡ Ok (Some (AskAt (codes "M") (Value (codes "T.V")))) }
+    ensures at_sensitivity { command_read (Line (codes "at M sens T.V T.I")) ≡ Ok (Some (AskAt (codes "M") (Sensitivity (codes "T.V") (codes "T.I")))) }
     ensures at_dump { command_read (Line (codes "at M dump#")) ≡ Ok (Some (AskAt (codes "M") Dump)) }
 {}
 
@@ -110,6 +112,10 @@ pub fn worked_refusals()
     ensures no_name { command_read (Line (codes "mark 1")) ≡ Err (LineFault.Syntax 6) }
     ensures no_query { command_read (Line (codes "at M")) ≡ Err (LineFault.Syntax 5) }
     ensures no_result { command_read (Line (codes "at M value")) ≡ Err (LineFault.Syntax 11) }
+    ensures no_names { command_read (Line (codes "sens")) ≡ Err (LineFault.Syntax 5) }
+    ensures no_input { command_read (Line (codes "sens Y # X")) ≡ Err (LineFault.Syntax 7) }
+    ensures no_input_name { command_read (Line (codes "at M sens Y 1")) ≡ Err (LineFault.Syntax 13) }
+    ensures third_name { command_read (Line (codes "sens Y X Z")) ≡ Err (LineFault.Syntax 10) }
     ensures other_query { command_read (Line (codes "at M var X")) ≡ Err LineFault.NotBuilt }
     ensures other_result { command_read (Line (codes "budget X")) ≡ Err LineFault.NotBuilt }
     ensures no_edit { command_read (Line (codes "at M undo")) ≡ Err (LineFault.Syntax 6) }
@@ -151,6 +157,9 @@ pub fn worked_replies()
     ensures fault { text_of_reply (Reply.Said (Answer.ValueFault ArithFault.ZeroDivisor (codes "Y"))) ≡ codes "fault zero_divisor Y\n" }
     ensures value { text_of_reply (Reply.Said (Answer.Value (codes "Y") (record { lo = scaled (pos 5) 1; hi = scaled (pos 7) 0 })))
         ≡ codes "value Y 0.5 7\n" }
+    ensures sensitivity { text_of_reply (Reply.Said (Answer.Sensitivity (codes "Y") (codes "T.V") (record { lo = scaled (negsuc 4) 1; hi = scaled (pos 7) 0 })))
+        ≡ codes "sens Y T.V -0.5 7\n" }
+    ensures law_fault { text_of_reply (Reply.Said Answer.LawOverflow) ≡ codes "fault law_overflow\n" }
     ensures no_rows { text_of_reply (Reply.Said (Answer.Dump [])) ≡ codes "ok\n" }
     ensures rows { text_of_reply (Reply.Said (Answer.Dump (Given (codes "X") (scaled (pos 5) 0) Exact Inf ∷ Formula (codes "Y") (Number (scaled (pos 5) 0)) ∷ [])))
         ≡ codes "given X 5 exact\nlet Y = 5\nok\n" }

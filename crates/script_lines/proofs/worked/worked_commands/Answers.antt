@@ -79,3 +79,11 @@ returns-clause-table c = refl
 pub returns-clause-set_table : goal.returns-clause-set_table
 unfolding csv_on_literals block_read records_read parsed refusal
 returns-clause-set_table c = refl
+
+pub returns-clause-sensitivity : goal.returns-clause-sensitivity
+unfolding line_read row_read reading_of parsed
+returns-clause-sensitivity c = refl
+
+pub returns-clause-at_sensitivity : goal.returns-clause-at_sensitivity
+unfolding line_read row_read reading_of parsed
+returns-clause-at_sensitivity c = refl

@@ -107,3 +107,19 @@ returns-clause-table_column c = refl
 pub returns-clause-no_block : goal.returns-clause-no_block
 unfolding line_read
 returns-clause-no_block c = refl
+
+pub returns-clause-no_names : goal.returns-clause-no_names
+unfolding line_read row_read reading_of parsed
+returns-clause-no_names c = refl
+
+pub returns-clause-no_input : goal.returns-clause-no_input
+unfolding line_read row_read reading_of parsed
+returns-clause-no_input c = refl
+
+pub returns-clause-no_input_name : goal.returns-clause-no_input_name
+unfolding line_read row_read reading_of parsed
+returns-clause-no_input_name c = refl
+
+pub returns-clause-third_name : goal.returns-clause-third_name
+unfolding line_read row_read reading_of parsed
+returns-clause-third_name c = refl

@@ -121,3 +121,11 @@ returns-clause-correlated c = refl
 pub returns-clause-table : goal.returns-clause-table
 unfolding digits
 returns-clause-table c = refl
+
+pub returns-clause-sensitivity : goal.returns-clause-sensitivity
+unfolding digits
+returns-clause-sensitivity c = refl
+
+pub returns-clause-law_fault : goal.returns-clause-law_fault
+unfolding digits
+returns-clause-law_fault c = refl
