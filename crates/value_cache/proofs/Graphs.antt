@@ -5,12 +5,12 @@ use Rattle.std.proofs.lemmas.Bool.{true≢false}
 use Rattle.std.proofs.lemmas.Bool.Decides.{nat_tests}
 use Rattle.std.proofs.lemmas.List.{append_assoc, append-nil, map-append}
 use mathlib.Core.Path.{fun_ext}
-use Rattle.dep_graph.specs.Nodes.{Node, has, ids_of, uses_in}
+use Rattle.dep_graph.specs.Nodes.{Node, has, ids_of, uses_in, AreOnce, IsWhole}
 use Rattle.value_cache.specs.Quantities.{Body, Quantity, is_there, first_unknown, used_by}
 use Rattle.value_cache.specs.Evaluable.{AreInOrder}
 use Rattle.value_cache.specs.Rules.{Bodies, uses_of, before, numbered, IsGraphOf}
-use Rattle.value_cache.proofs.Rules.{or-right, has-first}
-use Rattle.value_cache.proofs.Orders.{body_of-numbered, numbered-last, has-last}
+use Rattle.value_cache.proofs.Rules.{or-left, or-right, has-first}
+use Rattle.value_cache.proofs.Orders.{body_of-numbered, numbered-last, has-last, next}
 
 pub graph-empty : (bodies : Bodies) → ((n : ℕ) → bodies n ≡ None) → IsGraphOf [] bodies
 graph-empty bodies none = record {
@@ -126,3 +126,62 @@ graph-added nodes bodies new node body graph none added uses used = record { pla
       subst (AreInOrder nat_eq []) (sym list)
       (order-last nat_eq [] (numbered bodies (ids_of nodes)) (record { key = node.id; body = body }) graph.earlier free
       (all-known (is_there nat_eq (numbered bodies (ids_of nodes))) (used_by body) known))
+
+-- ---- what a graph of bodies is besides
+-- those in order are once, and none of them is before them
+pub record AreNew (done : List ℕ) (nodes : List Node) : Type 0 where
+  pub other : (k : ℕ) → has done k ≡ true → has (ids_of nodes) k ≡ false
+  pub once : AreOnce nodes
+
+new-nodes : (bodies : Bodies) (done : List ℕ) (nodes : List Node) → ((n : ℕ) → has (ids_of nodes) n ≡ true → is_some (bodies n) ≡ true)
+    → AreInOrder nat_eq (numbered bodies done) (numbered bodies (ids_of nodes)) → AreNew done nodes
+new-nodes bodies done [] there order = record { other = λ k h. refl; once = tt }
+new-nodes bodies done (node ∷ nodes) there order =
+    let step = next bodies done node.id (ids_of nodes) (there node.id (has-first node.id (ids_of nodes))) order in
+    let rest = new-nodes bodies (done ++ node.id ∷ []) nodes (λ n h. there n (or-right (nat_eq n node.id) (has (ids_of nodes) n) h)) step.rest in
+    let last : has (done ++ node.id ∷ []) node.id ≡ true =
+    has-last done node.id node.id ∙ or-right (has done node.id) (nat_eq node.id node.id) (grind (arith, nat_tests)) in
+    record {
+      other = λ k h. by k h step.new (rest.other k (has-last done node.id k ∙ or-left (has done k) (nat_eq k node.id) h)) (nat_eq k node.id) refl;
+      once = (rest.other node.id last, rest.once);
+    } where
+      by : (k : ℕ) → has done k ≡ true → has done node.id ≡ false → has (ids_of nodes) k ≡ false → (t : Bool) → nat_eq k node.id ≡ t → (t || has (ids_of nodes) k) ≡ false
+      by k h new off true q = let e : k ≡ node.id = grind (arith, nat_tests) in absurd (true≢false (sym h ∙ ap (has done) e ∙ new))
+      by k h new off false q = off
+
+pub graph-once : (nodes : List Node) (bodies : Bodies) → IsGraphOf nodes bodies → AreOnce nodes
+graph-once nodes bodies graph = (new-nodes bodies [] nodes (λ n h. sym (graph.placed n) ∙ h) graph.earlier).once
+
+-- what one of those in order uses is before them or among them
+used-there : (bodies : Bodies) (done ns : List ℕ) → ((n : ℕ) → has ns n ≡ true → is_some (bodies n) ≡ true)
+    → AreInOrder nat_eq (numbered bodies done) (numbered bodies ns) → (n m : ℕ) → has ns n ≡ true → has (uses_of (bodies n)) m ≡ true → (has done m || has ns m) ≡ true
+used-there bodies done [] there order n m h used = absurd (true≢false (sym h))
+used-there bodies done (k ∷ ns) there order n m h used =
+    let step = next bodies done k ns (there k (has-first k ns)) order in
+    by step.used (used-there bodies (done ++ k ∷ []) ns (λ n h. there n (or-right (nat_eq n k) (has ns n) h)) step.rest n m) (nat_eq n k) refl where
+      turned : (a b c : Bool) → ((a || b) || c) ≡ true → (a || (b || c)) ≡ true
+      turned true b c h = refl
+      turned false b c h = h
+
+      by : ((m : ℕ) → has (uses_of (bodies k)) m ≡ true → has done m ≡ true)
+          → (has ns n ≡ true → has (uses_of (bodies n)) m ≡ true → (has (done ++ k ∷ []) m || has ns m) ≡ true)
+          → (t : Bool) → nat_eq n k ≡ t → (has done m || has (k ∷ ns) m) ≡ true
+      by first rest true q =
+          let e : n ≡ k = grind (arith, nat_tests) in
+          or-left (has done m) (has (k ∷ ns) m) (first m (ap (λ n. has (uses_of (bodies n)) m) (sym e) ∙ used))
+      by first rest false q =
+          turned (has done m) (nat_eq m k) (has ns m) (ap (λ b. b || has ns m) (sym (has-last done k m)) ∙ rest (rw q at h) used)
+
+pub graph-whole : (nodes : List Node) (bodies : Bodies) → IsGraphOf nodes bodies → IsWhole nodes
+graph-whole nodes bodies graph = record { used = λ y n h. whole y n (sym (graph.uses y n) ∙ h) } where
+  there : (n : ℕ) → has (ids_of nodes) n ≡ true → is_some (bodies n) ≡ true
+  there n h = sym (graph.placed n) ∙ h
+
+  node-there : (y n : ℕ) → has (uses_of (bodies y)) n ≡ true → is_some (bodies y) ≡ true
+  node-there y n h = by (bodies y) h where
+    by : (b : Option (Body ℕ)) → has (uses_of b) n ≡ true → is_some b ≡ true
+    by None h = absurd (true≢false (sym h))
+    by (Some body) h = refl
+
+  whole : (y n : ℕ) → has (uses_of (bodies y)) n ≡ true → has (ids_of nodes) n ≡ true
+  whole y n used = used-there bodies [] (ids_of nodes) there graph.earlier y n (graph.placed y ∙ node-there y n used) used

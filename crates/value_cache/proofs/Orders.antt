@@ -70,20 +70,27 @@ found-none known (n ∷ ns) e m h = by (known n) refl (nat_eq m n) refl (λ e t.
   by true r true q rest = let same : n ≡ m = grind (arith, nat_tests) in ap known (sym same) ∙ r
   by true r false q rest = rest (rw r at e) (rw q at h)
 
--- the next of the numbers in order: it uses those before it alone
+-- the next of the numbers in order: it is new, and uses those before it alone
 pub record IsNext (bodies : Bodies) (done : List ℕ) (n : ℕ) (ns : List ℕ) : Type 0 where
+  pub new : has done n ≡ false
   pub used : (m : ℕ) → has (uses_of (bodies n)) m ≡ true → has done m ≡ true
   pub rest : AreInOrder nat_eq (numbered bodies (done ++ n ∷ [])) (numbered bodies ns)
 
-next : (bodies : Bodies) (done : List ℕ) (n : ℕ) (ns : List ℕ) → is_some (bodies n) ≡ true
+pub next : (bodies : Bodies) (done : List ℕ) (n : ℕ) (ns : List ℕ) → is_some (bodies n) ≡ true
     → AreInOrder nat_eq (numbered bodies done) (numbered bodies (n ∷ ns)) → IsNext bodies done n ns
 next bodies done n ns there order = by (bodies n) refl there where
+  new : (body : Body ℕ) → bodies n ≡ Some body → (t : Bool) → has done n ≡ t → is_there nat_eq (numbered bodies done) n ≡ false → t ≡ false
+  new body e true q h =
+      absurd (true≢false (ap is_some (sym e) ∙ ap (λ t. is_some (if t then bodies n else None)) (sym q) ∙ ap is_some (sym (body_of-numbered bodies done n)) ∙ h))
+  new body e false q h = refl
+
   by : (b : Option (Body ℕ)) → bodies n ≡ b → is_some b ≡ true → IsNext bodies done n ns
   by None e h = absurd (true≢false (sym h))
   by (Some body) e h =
       let whole : AreInOrder nat_eq (numbered bodies done) (record { key = n; body = body } ∷ numbered bodies ns) =
       subst (λ b. AreInOrder nat_eq (numbered bodies done) (before n b (numbered bodies ns))) e order in
       record {
+        new = new body e (has done n) refl whole.0;
         used = λ m used. there-numbered bodies done m
             (found-none (is_there nat_eq (numbered bodies done)) (used_by body) whole.1 m (ap (λ b. has (uses_of b) m) (sym e) ∙ used));
         rest = subst (λ qs. AreInOrder nat_eq qs (numbered bodies ns)) (sym (numbered-last bodies done n body e)) whole.2;
