@@ -11,3 +11,9 @@ pub mod Formulas
 pub mod RenamedValues
 pub mod Renamed
 pub mod Gradients
+mod Numbers
+mod Rows
+mod Effort
+mod Nodes
+mod Terms
+mod Sweeping

@@ -3,3 +3,5 @@ pub mod Sweep
 pub mod Sensitivities
 pub mod Renaming
 pub mod Worked
+pub mod Costs
+pub mod Gathering

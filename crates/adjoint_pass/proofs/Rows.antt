@@ -1,0 +1,83 @@
+-- What a row uses, and its partial derivatives, which depend on what it uses alone.
+use Rattle.std.specs.Prelude.{◌≡◌, ℕ, Bool, true, false, nat_eq, if◌then◌else◌, List, [], ◌∷◌, map, find, Option, None, Some, Result, Ok, Err, is_some, refl}
+use Rattle.std.specs.Option.{ok_or}
+use Rattle.std.proofs.Common.{sym, ◌∙◌, ap, ap₂}
+use Rattle.fixed_interval.specs.Interval.{Interval}
+use Rattle.fixed_interval.specs.Sums.{zero_span}
+use Rattle.fixed_interval.specs.declared.faults.Overflow.{Overflow}
+use Rattle.dep_graph.specs.Nodes.{has}
+use Rattle.formula_ast.specs.Trees.{Tree, names_of}
+use Rattle.formula_box.specs.Values.{Answer}
+use Rattle.formula_box.specs.Slopes.{partial_of, there}
+use Rattle.formula_box.specs.declared.fault.EvalFault.{EvalFault}
+use Rattle.value_cache.specs.Quantities.{Body, Input, Function, Column}
+use Rattle.value_cache.specs.Evaluations.{Found, span_in}
+use Rattle.value_cache.specs.Rules.{uses_of as used_of}
+use Rattle.value_cache.specs.Slots.{key_by, span_through, IsNumbered}
+use Rattle.value_cache.proofs.Rules.{AllNames-used}
+use Rattle.value_cache.proofs.Numbers.{numbers-named, spans-through}
+use Rattle.adjoint_pass.specs.Sensitivities.{uses_of, part_of}
+use Rattle.adjoint_pass.specs.Gathering.{name_beside, part_in}
+use Rattle.adjoint_pass.proofs.Formulas.{partial_same}
+use Rattle.adjoint_pass.proofs.Numbers.{has-turned}
+
+-- ---- what a row uses
+abbrev pub uses_at : Option (Body ℕ) → ℕ → Bool
+uses_at None n = false
+uses_at (Some body) n = uses_of nat_eq body n
+
+pub uses_at-has : (body : Option (Body ℕ)) (n : ℕ) → uses_at body n ≡ has (used_of body) n
+uses_at-has None n = refl
+uses_at-has (Some (Input estimate)) n = refl
+uses_at-has (Some (Function f key)) n = has-turned _ n
+uses_at-has (Some (Column t column)) n = refl
+
+-- ---- partial derivatives where the spans of what is used are the same
+pub part_same : (given others : ℕ → Option Interval) (body : Option (Body ℕ)) (n : ℕ) → ((m : ℕ) → has (used_of body) m ≡ true → given m ≡ others m)
+    → part_in given body n ≡ part_in others body n
+part_same given others None n same = refl
+part_same given others (Some (Input estimate)) n same = refl
+part_same given others (Some (Column t column)) n same = refl
+part_same given others (Some (Function f key)) n same =
+    partial_same (λ m. given (key m)) (λ m. others (key m)) f (find (λ name. nat_eq (key name) n) (names_of f))
+    (AllNames-used (λ m. given m ≡ others m) key f same)
+
+-- ---- a formula by names that stand for numbers
+beside_keys : (key : List ℕ → ℕ) (names : List (List ℕ)) (n : ℕ) → name_beside names (map key names) n ≡ find (λ name. nat_eq (key name) n) names
+beside_keys key [] n = refl
+beside_keys key (m ∷ ms) n = ap (λ o. if nat_eq (key m) n then Some m else o) (beside_keys key ms n)
+
+beside_is : (f : Tree) (names : List (List ℕ)) (ids : List ℕ) → IsNumbered f names ids → (n : ℕ)
+    → name_beside names ids n ≡ find (λ name. nat_eq (key_by names ids name) n) (names_of f)
+beside_is f names ids h n =
+    ap₂ (λ ms ns. name_beside ms ns n) h.named (sym (numbers-named f names ids h)) ∙ beside_keys (key_by names ids) (names_of f) n
+
+through_is : (cells : Found ℕ) (f : Tree) (names : List (List ℕ)) (ids : List ℕ) → IsNumbered f names ids → (name : List ℕ)
+    → there (partial_of (λ m. span_through names ids cells m) name f) ≡ there (partial_of (λ m. span_in (cells (key_by names ids m))) name f)
+through_is cells f names ids h name =
+    partial_same (λ m. span_through names ids cells m) (λ m. span_in (cells (key_by names ids m))) f (Some name) (spans-through cells f names ids h)
+
+-- the answers of the call that finds a partial derivative
+pub no_name : (cells : Found ℕ) (f : Tree) (names : List (List ℕ)) (ids : List ℕ) → IsNumbered f names ids → (n : ℕ) (s : Interval)
+    → None ≡ name_beside names ids n → s ≡ zero_span
+    → ◌≡◌ {A = Result Interval Overflow} (Ok s) (ok_or (part_of nat_eq (λ k. span_in (cells k)) (Function f (key_by names ids)) n) (record {}))
+no_name cells f names ids h n s e z =
+    let none : find (λ name. nat_eq (key_by names ids name) n) (names_of f) ≡ None = sym (beside_is f names ids h n) ∙ sym e in
+    rw (none, z) refl
+
+by_name : (cells : Found ℕ) (f : Tree) (names : List (List ℕ)) (ids : List ℕ) → IsNumbered f names ids → (n : ℕ) (name : List ℕ) (r : Answer)
+    → Some name ≡ name_beside names ids n → r ≡ partial_of (λ m. span_through names ids cells m) name f
+    → part_of nat_eq (λ k. span_in (cells k)) (Function f (key_by names ids)) n ≡ there r
+by_name cells f names ids h n name r e p =
+    let some : find (λ m. nat_eq (key_by names ids m) n) (names_of f) ≡ Some name = sym (beside_is f names ids h n) ∙ sym e in
+    rw some (sym (ap there p ∙ through_is cells f names ids h name))
+
+pub named_there : (cells : Found ℕ) (f : Tree) (names : List (List ℕ)) (ids : List ℕ) → IsNumbered f names ids → (n : ℕ) (name : List ℕ) (s : Interval)
+    → Some name ≡ name_beside names ids n → Ok s ≡ partial_of (λ m. span_through names ids cells m) name f
+    → ◌≡◌ {A = Result Interval Overflow} (Ok s) (ok_or (part_of nat_eq (λ k. span_in (cells k)) (Function f (key_by names ids)) n) (record {}))
+named_there cells f names ids h n name s e p = rw (by_name cells f names ids h n name (Ok s) e p) refl
+
+pub named_missing : (cells : Found ℕ) (f : Tree) (names : List (List ℕ)) (ids : List ℕ) → IsNumbered f names ids → (n : ℕ) (name : List ℕ) (fault : EvalFault)
+    → Some name ≡ name_beside names ids n → Err fault ≡ partial_of (λ m. span_through names ids cells m) name f
+    → ◌≡◌ {A = Result Interval Overflow} (Err (record {})) (ok_or (part_of nat_eq (λ k. span_in (cells k)) (Function f (key_by names ids)) n) (record {}))
+named_missing cells f names ids h n name fault e p = rw (by_name cells f names ids h n name (Err fault) e p) refl

@@ -1,0 +1,75 @@
+-- The terms that users bring, found from the last user to the first.
+use Rattle.std.specs.Prelude.{◌≡◌, ℕ, ◌+◌, ◌≤◌, ◌<◌, Bool, true, false, if◌then◌else◌, List, [], ◌∷◌, ◌++◌, map, filter, reverse, take, get_or, length, sum_by, is_some, Option, refl}
+use Rattle.std.proofs.Common.{arith, sym, ◌∙◌, ap}
+use Rattle.std.proofs.lemmas.List.{take_more, take_all, reverse-append}
+use Rattle.std.proofs.lemmas.List.Sums.{sum_by-append}
+use Rattle.fixed_interval.specs.Interval.{Interval}
+use Rattle.covariance.specs.Gradients.{Spans}
+use Rattle.value_cache.specs.Evaluations.{Found}
+use Rattle.value_cache.specs.Rules.{Bodies}
+use Rattle.adjoint_pass.specs.Costs.{term_cost}
+use Rattle.adjoint_pass.specs.Gathering.{found_among, gathered, term_at}
+
+-- the users before a place, the last first
+abbrev pub users_before : List ℕ → ℕ → List ℕ
+users_before us at = reverse (take at us)
+
+users_before-next : (us : List ℕ) (at m : ℕ) → at < length us → get_or us at 0 ≡ m → users_before us (at + 1) ≡ m ∷ users_before us at
+users_before-next us at m within is =
+    ap reverse (take_more us at 0 within) ∙ reverse-append (take at us) (get_or us at 0 ∷ []) ∙ ap (λ k. k ∷ users_before us at) is
+
+-- one user more
+found-cons : (found : Spans ℕ) (m : ℕ) (ms : List ℕ) → found_among found (m ∷ ms) ≡ found_among found (m ∷ []) ++ found_among found ms
+found-cons found m ms = by (is_some (found m)) where
+  by : (b : Bool) → (if b then m ∷ found_among found ms else found_among found ms) ≡ (if b then m ∷ [] else []) ++ found_among found ms
+  by true = refl
+  by false = refl
+
+gathered-cons : (bodies : Bodies) (cells : Found ℕ) (found : Spans ℕ) (n m : ℕ) (ms : List ℕ)
+    → gathered bodies cells found n (m ∷ ms) ≡ gathered bodies cells found n (m ∷ []) ++ gathered bodies cells found n ms
+gathered-cons bodies cells found n m ms = by (is_some (found m)) where
+  rest : List (Option Interval)
+  rest = gathered bodies cells found n ms
+
+  by : (b : Bool) → map (term_at bodies cells found n) (if b then m ∷ found_among found ms else found_among found ms)
+      ≡ map (term_at bodies cells found n) (if b then m ∷ [] else []) ++ map (term_at bodies cells found n) (found_among found ms)
+  by true = refl
+  by false = refl
+
+pub gathered-next : (bodies : Bodies) (cells : Found ℕ) (found : Spans ℕ) (n : ℕ) (us : List ℕ) (at m : ℕ) → at < length us → get_or us at 0 ≡ m
+    → gathered bodies cells found n (users_before us (at + 1))
+    ≡ gathered bodies cells found n (m ∷ []) ++ gathered bodies cells found n (users_before us at)
+gathered-next bodies cells found n us at m within is =
+    ap (gathered bodies cells found n) (users_before-next us at m within is) ∙ gathered-cons bodies cells found n m (users_before us at)
+
+pub gathered-all : (bodies : Bodies) (cells : Found ℕ) (found : Spans ℕ) (n : ℕ) (us : List ℕ) (at : ℕ) → length us ≤ at
+    → gathered bodies cells found n (users_before us at) ≡ gathered bodies cells found n (reverse us)
+gathered-all bodies cells found n us at past = ap (λ l. gathered bodies cells found n (reverse l)) (take_all at us past)
+
+-- what these cost
+abbrev pub cost_of_found : Bodies → Spans ℕ → List ℕ → ℕ
+cost_of_found bodies found ms = sum_by (λ m. term_cost (bodies m)) (found_among found ms)
+
+pub cost-next : (bodies : Bodies) (found : Spans ℕ) (us : List ℕ) (at m : ℕ) → at < length us → get_or us at 0 ≡ m
+    → cost_of_found bodies found (users_before us (at + 1)) ≡ cost_of_found bodies found (m ∷ []) + cost_of_found bodies found (users_before us at)
+cost-next bodies found us at m within is =
+    ap (cost_of_found bodies found) (users_before-next us at m within is)
+    ∙ ap (sum_by (λ k. term_cost (bodies k))) (found-cons found m (users_before us at))
+    ∙ sum_by-append (λ k. term_cost (bodies k)) (found_among found (m ∷ [])) (found_among found (users_before us at))
+
+pub cost-all : (bodies : Bodies) (found : Spans ℕ) (us : List ℕ) (at : ℕ) → length us ≤ at
+    → cost_of_found bodies found (users_before us at) ≡ cost_of_found bodies found (reverse us)
+cost-all bodies found us at past = ap (λ l. cost_of_found bodies found (reverse l)) (take_all at us past)
+
+-- of one user: what it brings where its own sensitivity is found, and nothing where it is not
+pub one_gathered : (bodies : Bodies) (cells : Found ℕ) (found : Spans ℕ) (n m : ℕ) → is_some (found m) ≡ true
+    → gathered bodies cells found n (m ∷ []) ≡ term_at bodies cells found n m ∷ []
+one_gathered bodies cells found n m h = ap (λ b. map (term_at bodies cells found n) (if b then m ∷ [] else [])) h
+
+pub none_gathered : (bodies : Bodies) (cells : Found ℕ) (found : Spans ℕ) (n m : ℕ) → is_some (found m) ≡ false
+    → gathered bodies cells found n (m ∷ []) ≡ []
+none_gathered bodies cells found n m h = ap (λ b. map (term_at bodies cells found n) (if b then m ∷ [] else [])) h
+
+pub one_cost : (bodies : Bodies) (found : Spans ℕ) (m : ℕ) → is_some (found m) ≡ true → cost_of_found bodies found (m ∷ []) ≡ term_cost (bodies m)
+one_cost bodies found m h =
+    ap (λ b. sum_by (λ k. term_cost (bodies k)) (if b then m ∷ [] else [])) h ∙ omega arith
