@@ -1,7 +1,8 @@
 -- What a row uses, and its partial derivatives, which depend on what it uses alone.
-use Rattle.std.specs.Prelude.{◌≡◌, ℕ, Bool, true, false, nat_eq, if◌then◌else◌, List, [], ◌∷◌, map, find, Option, None, Some, Result, Ok, Err, is_some, refl}
+use Rattle.std.specs.Prelude.{◌≡◌, ℕ, zero, suc, ◌+◌, ◌≤◌, ◌<◌, Bool, true, false, nat_eq, if◌then◌else◌, List, [], ◌∷◌, map, find, drop, get_or, length, Option, None, Some, Result, Ok, Err, is_some, refl}
 use Rattle.std.specs.Option.{ok_or}
-use Rattle.std.proofs.Common.{sym, ◌∙◌, ap, ap₂}
+use Rattle.std.proofs.Common.{arith, sym, ◌∙◌, ap, ap₂}
+use Rattle.std.proofs.lemmas.List.{drop_all}
 use Rattle.fixed_interval.specs.Interval.{Interval}
 use Rattle.fixed_interval.specs.Sums.{zero_span}
 use Rattle.fixed_interval.specs.declared.faults.Overflow.{Overflow}
@@ -41,6 +42,28 @@ part_same given others (Some (Column t column)) n same = refl
 part_same given others (Some (Function f key)) n same =
     partial_same (λ m. given (key m)) (λ m. others (key m)) f (find (λ name. nat_eq (key name) n) (names_of f))
     (AllNames-used (λ m. given m ≡ others m) key f same)
+
+-- ---- a search for the name beside which a number stands
+none_beside : (ms : List (List ℕ)) (n : ℕ) → name_beside ms [] n ≡ None
+none_beside [] n = refl
+none_beside (m ∷ ms) n = refl
+
+no_names : (k : ℕ) (ids : List ℕ) (n : ℕ) → name_beside (drop k []) ids n ≡ None
+no_names zero ids n = refl
+no_names (suc k) ids n = refl
+
+pub beside_later : (ms : List (List ℕ)) (ids : List ℕ) (at n id : ℕ) → at < length ids → id ≡ get_or ids at id → nat_eq id n ≡ false
+    → name_beside (drop (at + 1) ms) (drop (at + 1) ids) n ≡ name_beside (drop at ms) (drop at ids) n
+beside_later ms [] at n id low is off = absurd (omega (arith, low))
+beside_later [] (i ∷ ids) at n id low is off =
+    no_names (at + 1) (drop (at + 1) (i ∷ ids)) n ∙ sym (no_names at (drop at (i ∷ ids)) n)
+beside_later (m ∷ ms) (i ∷ ids) zero n id low is off =
+    let t : nat_eq i n ≡ false = ap (λ k. nat_eq k n) (sym is) ∙ off in rw t refl
+beside_later (m ∷ ms) (i ∷ ids) (suc at) n id low is off =
+    let e : suc at + 1 ≡ suc (at + 1) = omega arith in rw e (beside_later ms ids at n id (omega (arith, low)) is off)
+
+pub beside_none : (ms : List (List ℕ)) (ids : List ℕ) (at n : ℕ) → length ids ≤ at → name_beside (drop at ms) (drop at ids) n ≡ None
+beside_none ms ids at n past = ap (λ l. name_beside (drop at ms) l n) (drop_all at ids past) ∙ none_beside (drop at ms) n
 
 -- ---- a formula by names that stand for numbers
 beside_keys : (key : List ℕ → ℕ) (names : List (List ℕ)) (n : ℕ) → name_beside names (map key names) n ≡ find (λ name. nat_eq (key name) n) names

@@ -1,9 +1,13 @@
 -- The terms that users bring, found from the last user to the first.
-use Rattle.std.specs.Prelude.{◌≡◌, ℕ, ◌+◌, ◌≤◌, ◌<◌, Bool, true, false, if◌then◌else◌, List, [], ◌∷◌, ◌++◌, map, filter, reverse, take, get_or, length, sum_by, is_some, Option, refl}
-use Rattle.std.proofs.Common.{arith, sym, ◌∙◌, ap}
+use Rattle.std.specs.Prelude.{◌≡◌, ℕ, ◌+◌, ◌≤◌, ◌<◌, Bool, true, false, if◌then◌else◌, List, [], ◌∷◌, ◌++◌, map, filter, reverse, take, get_or, length, sum_by, is_some, is_err, Option, None, Result, Err, refl}
+use Rattle.std.specs.Option.{ok_or}
+use Rattle.std.proofs.Common.{arith, sym, ◌∙◌, ap, subst}
 use Rattle.std.proofs.lemmas.List.{take_more, take_all, reverse-append}
 use Rattle.std.proofs.lemmas.List.Sums.{sum_by-append}
 use Rattle.fixed_interval.specs.Interval.{Interval}
+use Rattle.fixed_interval.specs.Sums.{sum_after, Continues}
+use Rattle.fixed_interval.specs.declared.faults.Overflow.{Overflow}
+use Rattle.fixed_interval.proofs.SumLoops.{Leaves, refused_one}
 use Rattle.covariance.specs.Gradients.{Spans}
 use Rattle.value_cache.specs.Evaluations.{Found}
 use Rattle.value_cache.specs.Rules.{Bodies}
@@ -73,3 +77,14 @@ none_gathered bodies cells found n m h = ap (λ b. map (term_at bodies cells fou
 pub one_cost : (bodies : Bodies) (found : Spans ℕ) (m : ℕ) → is_some (found m) ≡ true → cost_of_found bodies found (m ∷ []) ≡ term_cost (bodies m)
 one_cost bodies found m h =
     ap (λ b. sum_by (λ k. term_cost (bodies k)) (if b then m ∷ [] else [])) h ∙ omega arith
+
+-- ---- the sum
+pub refused_user : (bodies : Bodies) (cells : Found ℕ) (found : Spans ℕ) (n m : ℕ) (r : Result (Option Interval) Overflow) → is_err r ≡ true → (sum : Option Interval)
+    (x e : Overflow) → Err x ≡ ok_or (term_at bodies cells found n m) e → is_some (found m) ≡ true → Continues sum (gathered bodies cells found n (m ∷ [])) r
+refused_user bodies cells found n m r i sum x e h there =
+    subst (λ ts. Continues sum ts r) (sym (one_gathered bodies cells found n m there)) (refused_one r i sum (term_at bodies cells found n m) x e h)
+
+-- before the first user
+pub all_left : (bodies : Bodies) (cells : Found ℕ) (found : Spans ℕ) (n : ℕ) (us : List ℕ)
+    → Leaves None (gathered bodies cells found n (users_before us (length us))) None (gathered bodies cells found n (reverse us))
+all_left bodies cells found n us more = ap (λ ts. sum_after None (ts ++ more)) (gathered-all bodies cells found n us (length us) (omega arith))
