@@ -3,6 +3,7 @@ use Rattle.std.specs.Prelude.{◌≡◌, ℕ, zero, suc, Bool, true, false, ◌|
 use Rattle.std.specs.Prelude.{◌⊎◌}
 use Rattle.std.specs.List.{list_any, AllByRecursion}
 use Rattle.std.proofs.Common.{arith, sym, ◌∙◌, ap, subst, inl, inr}
+use Rattle.std.proofs.lemmas.List.Folds.{list_any_at}
 use Rattle.std.proofs.lemmas.Bool.{true≢false, and_parts, or_cases, or_left, or_right, false_from_ne_true}
 use Rattle.fixed_interval.specs.Interval.{Interval}
 use Rattle.dep_graph.specs.Nodes.{Node as GraphNode, has, ids_of, uses_in, users_in, AreOnce}
@@ -17,7 +18,7 @@ use Rattle.adjoint_pass.specs.Gathering.{part_in}
 use Rattle.adjoint_pass.proofs.Lists.{filter-map}
 use Rattle.adjoint_pass.proofs.Turns.{AreFalling}
 use Rattle.adjoint_pass.proofs.Equations.{depends_on-closed, cone_of-falling}
-use Rattle.adjoint_pass.proofs.Numbers.{same_numbers, itself, equal, same_tests, has-first, has-next, has-filter, has-reverse, filter_same, filter-reverse, map-reverse, AreApart, apart-filter}
+use Rattle.adjoint_pass.proofs.Numbers.{same_numbers, itself, equal, same_tests, has-first, has-next, has-filter, has-reverse, filter_same, filter-reverse, map-reverse, AreApart}
 use Rattle.adjoint_pass.proofs.Rows.{uses_at, uses_at-has}
 
 -- ---- the graph's order has each number once
@@ -107,6 +108,12 @@ users-back nodes bodies graph n =
     ∙ sym (filter-reverse (λ m. has (uses_in nodes m) n) (ids_of nodes))
     ∙ filter_same (λ m. has (uses_in nodes m) n) (λ m. uses_at (bodies m) n) (reverse (ids_of nodes))
     (λ m h. graph.uses m n ∙ sym (uses_at-has (bodies m) n))
+
+pub users_placed : (nodes : List GraphNode) (bodies : Bodies) → IsGraphOf nodes bodies → (n m : ℕ) → has (users_in nodes n) m ≡ true → is_some (bodies m) ≡ true
+users_placed nodes bodies graph n m h =
+    let there = sym (has-filter (λ k. has (uses_in nodes k) n) (ids_of nodes) m)
+        ∙ ap (λ l. has l m) (sym (users-filter nodes (are_once nodes (ids-apart nodes bodies graph)) n)) ∙ h in
+    sym (graph.placed m) ∙ (and_parts (has (ids_of nodes) m) (has (uses_in nodes m) n) there).0
 
 -- ---- the nodes by their numbers
 abbrev pub node_at : (ℕ → Option Interval) → Bodies → ℕ → Node ℕ
@@ -258,8 +265,9 @@ cone-there nodes y list is n h =
     let both = sym (has-filter (has list) (reverse (ids_of nodes)) n) ∙ ap (λ l. has l n) (sym (falling-list nodes y list is)) ∙ h in
     sym (has-reverse (ids_of nodes) n) ∙ (and_parts (has (reverse (ids_of nodes)) n) (has list n) both).0
 
-pub cone-apart : (nodes : List GraphNode) (bodies : Bodies) → IsGraphOf nodes bodies → (p : ℕ → Bool) → AreApart (filter p (ids_of nodes))
-cone-apart nodes bodies graph p = apart-filter p (ids_of nodes) (ids-apart nodes bodies graph)
+pub place-there : (nodes : List GraphNode) (y : ℕ) (list : List ℕ) → IsCone nodes y list → (i n : ℕ) → i < length list → n ≡ get_or list i n → has (ids_of nodes) n ≡ true
+place-there nodes y list is i n within at =
+    cone-there nodes y list is n (list_any_at (nat_eq n) list i n within (ap (nat_eq n) (sym at) ∙ itself n))
 
 -- none from a place on uses the one at the place
 uses_none : (given : ℕ → Option Interval) (bodies : Bodies) (n : ℕ) (ks : List ℕ) → AllByRecursion (λ u. u.uses n ≡ false) (map (node_at given bodies) ks)

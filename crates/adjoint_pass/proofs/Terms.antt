@@ -1,5 +1,5 @@
 -- The terms that users bring, found from the last user to the first.
-use Rattle.std.specs.Prelude.{◌≡◌, ℕ, ◌+◌, ◌≤◌, ◌<◌, Bool, true, false, if◌then◌else◌, List, [], ◌∷◌, ◌++◌, map, filter, reverse, take, get_or, length, sum_by, is_some, is_err, Option, None, Result, Err, refl}
+use Rattle.std.specs.Prelude.{◌≡◌, ℕ, ◌+◌, ◌-◌, ◌≤◌, ◌<◌, Bool, true, false, if◌then◌else◌, List, [], ◌∷◌, ◌++◌, map, filter, reverse, take, get_or, length, sum_by, is_some, is_err, Option, None, Result, Err, refl}
 use Rattle.std.specs.Option.{ok_or}
 use Rattle.std.proofs.Common.{arith, sym, ◌∙◌, ap, subst}
 use Rattle.std.proofs.lemmas.List.{take_more, take_all, reverse-append}
@@ -18,9 +18,11 @@ use Rattle.adjoint_pass.specs.Gathering.{found_among, gathered, term_at}
 abbrev pub users_before : List ℕ → ℕ → List ℕ
 users_before us at = reverse (take at us)
 
-users_before-next : (us : List ℕ) (at m : ℕ) → at < length us → get_or us at 0 ≡ m → users_before us (at + 1) ≡ m ∷ users_before us at
-users_before-next us at m within is =
-    ap reverse (take_more us at 0 within) ∙ reverse-append (take at us) (get_or us at 0 ∷ []) ∙ ap (λ k. k ∷ users_before us at) is
+users_before-next : (us : List ℕ) (at m : ℕ) → 0 < at → at ≤ length us → m ≡ get_or us (at - 1) m → users_before us at ≡ m ∷ users_before us (at - 1)
+users_before-next us at m some within is =
+    let e : at ≡ at - 1 + 1 = omega arith in
+    ap (users_before us) e ∙ ap reverse (take_more us (at - 1) m (omega arith)) ∙ reverse-append (take (at - 1) us) (get_or us (at - 1) m ∷ [])
+    ∙ ap (λ k. k ∷ users_before us (at - 1)) (sym is)
 
 -- one user more
 found-cons : (found : Spans ℕ) (m : ℕ) (ms : List ℕ) → found_among found (m ∷ ms) ≡ found_among found (m ∷ []) ++ found_among found ms
@@ -40,11 +42,11 @@ gathered-cons bodies cells found n m ms = by (is_some (found m)) where
   by true = refl
   by false = refl
 
-pub gathered-next : (bodies : Bodies) (cells : Found ℕ) (found : Spans ℕ) (n : ℕ) (us : List ℕ) (at m : ℕ) → at < length us → get_or us at 0 ≡ m
-    → gathered bodies cells found n (users_before us (at + 1))
-    ≡ gathered bodies cells found n (m ∷ []) ++ gathered bodies cells found n (users_before us at)
-gathered-next bodies cells found n us at m within is =
-    ap (gathered bodies cells found n) (users_before-next us at m within is) ∙ gathered-cons bodies cells found n m (users_before us at)
+pub gathered-next : (bodies : Bodies) (cells : Found ℕ) (found : Spans ℕ) (n : ℕ) (us : List ℕ) (at m : ℕ) → 0 < at → at ≤ length us → m ≡ get_or us (at - 1) m
+    → gathered bodies cells found n (users_before us at)
+    ≡ gathered bodies cells found n (m ∷ []) ++ gathered bodies cells found n (users_before us (at - 1))
+gathered-next bodies cells found n us at m some within is =
+    ap (gathered bodies cells found n) (users_before-next us at m some within is) ∙ gathered-cons bodies cells found n m (users_before us (at - 1))
 
 pub gathered-all : (bodies : Bodies) (cells : Found ℕ) (found : Spans ℕ) (n : ℕ) (us : List ℕ) (at : ℕ) → length us ≤ at
     → gathered bodies cells found n (users_before us at) ≡ gathered bodies cells found n (reverse us)
@@ -54,12 +56,12 @@ gathered-all bodies cells found n us at past = ap (λ l. gathered bodies cells f
 abbrev pub cost_of_found : Bodies → Spans ℕ → List ℕ → ℕ
 cost_of_found bodies found ms = sum_by (λ m. term_cost (bodies m)) (found_among found ms)
 
-pub cost-next : (bodies : Bodies) (found : Spans ℕ) (us : List ℕ) (at m : ℕ) → at < length us → get_or us at 0 ≡ m
-    → cost_of_found bodies found (users_before us (at + 1)) ≡ cost_of_found bodies found (m ∷ []) + cost_of_found bodies found (users_before us at)
-cost-next bodies found us at m within is =
-    ap (cost_of_found bodies found) (users_before-next us at m within is)
-    ∙ ap (sum_by (λ k. term_cost (bodies k))) (found-cons found m (users_before us at))
-    ∙ sum_by-append (λ k. term_cost (bodies k)) (found_among found (m ∷ [])) (found_among found (users_before us at))
+pub cost-next : (bodies : Bodies) (found : Spans ℕ) (us : List ℕ) (at m : ℕ) → 0 < at → at ≤ length us → m ≡ get_or us (at - 1) m
+    → cost_of_found bodies found (users_before us at) ≡ cost_of_found bodies found (m ∷ []) + cost_of_found bodies found (users_before us (at - 1))
+cost-next bodies found us at m some within is =
+    ap (cost_of_found bodies found) (users_before-next us at m some within is)
+    ∙ ap (sum_by (λ k. term_cost (bodies k))) (found-cons found m (users_before us (at - 1)))
+    ∙ sum_by-append (λ k. term_cost (bodies k)) (found_among found (m ∷ [])) (found_among found (users_before us (at - 1)))
 
 pub cost-all : (bodies : Bodies) (found : Spans ℕ) (us : List ℕ) (at : ℕ) → length us ≤ at
     → cost_of_found bodies found (users_before us at) ≡ cost_of_found bodies found (reverse us)
