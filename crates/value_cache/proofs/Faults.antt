@@ -8,7 +8,7 @@ use Rattle.fixed_interval.specs.Interval.{Interval}
 use Rattle.fixed_interval.specs.Rules.{quotient}
 use Rattle.fixed_interval.specs.Powers.{power}
 use Rattle.fixed_interval.specs.declared.faults.ArithFault.{ArithFault}
-use Rattle.formula_ast.specs.Trees.{Tree, Number, Variable, Opposite, Joined, Raised, uses, distinct, names_of}
+use Rattle.formula_ast.specs.Trees.{Tree, Number, Variable, Opposite, Joined, Raised, uses, distinct}
 use Rattle.formula_ast.specs.declared.token.Sign.{Sign}
 use Rattle.formula_ast.specs.declared.token.Sign.TheVariants.{Plus, Minus, Times, Over}
 use Rattle.formula_box.specs.Values.{Answer, then_with, in_range, arithmetic, used, use_after, joined_span, span_from, span_of}
@@ -149,9 +149,3 @@ fault-distinct found (n ∷ ns) = by (fault_at found n) refl (fault-distinct fou
       → first_fault found (distinct (n ∷ ns)) ≡ first_fault found (n ∷ ns)
   by (Some x) e rest = rw e refl
   by None e rest = rw e (fault-without found n (distinct ns) e ∙ rest)
-
--- a formula whose value lacks that of a name has the first fault of its names
-pub evaluated_fault : {K : Type 0} (found : Named K) (row : K) (f : Tree) (k : ℕ) (o : Option (Evaluation K)) (ns : List (List ℕ))
-    → Err (NoValue k) ≡ span_of (λ n. span_in (found n)) f → ns ≡ names_of f → o ≡ first_fault found ns
-    → o ≡ evaluation_of_formula found row f
-evaluated_fault found row f k o ns e h g = rw (← e) (g ∙ ap (first_fault found) h ∙ fault-distinct found (uses f))

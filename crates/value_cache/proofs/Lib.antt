@@ -2,7 +2,6 @@ pub mod Names
 pub mod Faults
 pub mod Evaluable
 pub mod Sound
-pub mod Adding
 pub mod Rules
 pub mod Numbers
 pub mod Orders

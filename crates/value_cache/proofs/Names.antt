@@ -5,7 +5,11 @@ use Rattle.std.proofs.Common.{sym, ◌∙◌, ap}
 use Rattle.std.proofs.lemmas.List.Folds.{find-append}
 use Rattle.std.proofs.lemmas.Option.{none-some}
 use Rattle.std.proofs.lemmas.Slice.Eq.{bytes_eq-Decides}
+use Rattle.exact_law.specs.Model.{IsSameTest}
 use Rattle.formula_ast.specs.Trees.{Tree, Number, Variable, Opposite, Joined, Raised, uses, distinct}
+
+pub same_names : IsSameTest bytes_eq
+same_names = record { sound = λ a b e. (bytes_eq-Decides a b).0 e; complete = λ a. (bytes_eq-Decides a a).1 refl }
 
 abbrev pub AllNames : (List ℕ → Type 0) → Tree → Type 0
 AllNames P (Number q) = Unit {0}

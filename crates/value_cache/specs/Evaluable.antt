@@ -1,7 +1,7 @@
--- Quantities each of which uses quantities that are there, and the evaluations that are kept of them.
+-- Quantities each of which uses quantities that are there.
 use Rattle.std.specs.Prelude.{◌≡◌, ℕ, ◌≤◌, Bool, false, List, [], ◌∷◌, ◌++◌, length, Some, None, is_some}
 use Rattle.value_cache.specs.Quantities.{Body, Quantity, body_of, is_there, first_unknown, used_by, HasItsColumn}
-use Rattle.value_cache.specs.Evaluations.{Found, evaluation_through, evaluation_of}
+use Rattle.value_cache.specs.Evaluations.{evaluation_through, evaluation_of}
 
 -- what the body uses is there. Of inputs and formulas the second field asks nothing
 pub record UsesOnly {K : Type 0} (same : K → K → Bool) (qs : List (Quantity K)) (body : Body K) : Type 0 where
@@ -18,15 +18,6 @@ pub record IsEvaluable {K : Type 0} (same : K → K → Bool) (qs : List (Quanti
   pub closed : (n : K) (body : Body K) → body_of same qs n ≡ Some body → UsesOnly same qs body
   -- each has a span or a fault
   pub found : (n : K) → is_some (evaluation_of same qs n) ≡ is_there same qs n
-
--- these evaluations are those of the quantities
-pub record Keeps {K : Type 0} (same : K → K → Bool) (qs : List (Quantity K)) (found : Found K) : Type 0 where
-  pub evaluable : IsEvaluable same qs
-  pub evaluations : (n : K) → found n ≡ evaluation_of same qs n
-
--- one quantity more
-abbrev pub with_quantity : {K : Type 0} → List (Quantity K) → K → Body K → List (Quantity K)
-with_quantity qs key body = qs ++ record { key = key; body = body } ∷ []
 
 -- after these quantities, each has a new key and uses those before it alone
 abbrev pub AreInOrder : {K : Type 0} → (K → K → Bool) → List (Quantity K) → List (Quantity K) → Type 0

@@ -1,7 +1,6 @@
 pub mod Quantities
 pub mod Evaluations
 pub mod Evaluable
-pub mod Cells
 pub mod Model
 pub mod WorkedQuantities
 pub mod Rules

@@ -2,18 +2,15 @@
 //! expanded formula, which the span encloses.
 //!
 //! The definitions in `specs/` are over any kind of key and over quantities in any order. They say what
-//! the right evaluation of a quantity is for every body that finds one. [`Values`] is the first such
-//! body: it finds the evaluations of a sheet's quantities by their names, row by row.
+//! the right evaluation of a quantity is for every body that finds one. [`Cache`] is such a body: it finds
+//! the evaluations of a quantity and of all on which it depends, by numbers, each once.
 #![tactic(auto)]
 
 mod body;
 mod cache;
 mod evaluation;
 mod laws;
-#[cfg(test)]
-mod tests;
 mod through;
-mod values;
 
 pub use body::Body;
 pub use cache::Cache;
@@ -23,4 +20,3 @@ pub use laws::{
     unknown_has_no_value, values_are_enclosed, worked_columns,
 };
 pub use through::Through;
-pub use values::Values;

@@ -3,7 +3,7 @@ use Rattle.std.proofs.Common.{sym, ◌∙◌, ap₂, inl, inr}
 use Rattle.std.proofs.lemmas.Bool.{true≢false}
 use Rattle.decimal18.specs.Bound.{scaled}
 use Rattle.value_cache.specs.Quantities.{Input, is_there}
-use Rattle.value_cache.proofs.Adding.{same_names}
+use Rattle.value_cache.proofs.Names.{same_names}
 use Rattle.adjoint_pass.specs.Worked.{first_byte, pair, squared}
 use Rattle.adjoint_pass.proofs.laws.worked_premises.Goals as goal
 
