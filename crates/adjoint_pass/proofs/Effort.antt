@@ -61,17 +61,16 @@ keyed : (e : ℕ) (ns ks : List ℕ) → ((k : ℕ) → times k ns ≤ 1) → su
 keyed e ns [] h = omega (arith, sum-zero ns)
 keyed e ns (k ∷ ks) h =
     let first : sum_by (λ n. if nat_eq n k then e else 0) ns ≤ e =
-        omega (arith, weighed e k ns, at_most_once (times k ns) e (h k)) in
-    omega
-    (
+    omega (arith, weighed e k ns, at_most_once (times k ns) e (h k)) in
+    omega (
       arith,
       first,
       keyed e ns ks h,
       suc-mul (length ks) e,
       sum-added (λ n. if nat_eq n k then e else 0) (λ n. if list_any (λ j. nat_eq j n) ks then e else 0) ns,
       sum_by-le-sum_by (λ n. if nat_eq k n || list_any (λ j. nat_eq j n) ks then e else 0)
-      (λ n. (if nat_eq n k then e else 0) + (if list_any (λ j. nat_eq j n) ks then e else 0)) ns
-      (λ n. by (nat_eq k n) (nat_eq n k) (turned k n) (list_any (λ j. nat_eq j n) ks)),
+          (λ n. (if nat_eq n k then e else 0) + (if list_any (λ j. nat_eq j n) ks then e else 0)) ns
+          (λ n. by (nat_eq k n) (nat_eq n k) (turned k n) (list_any (λ j. nat_eq j n) ks)),
     ) where
       by : (a b : Bool) → a ≡ b → (c : Bool) → (if a || c then e else 0) ≤ (if b then e else 0) + (if c then e else 0)
       by true true s c = omega arith
@@ -98,8 +97,8 @@ row_brings e (Some (Input estimate)) ns h = omega (arith, sum-zero ns)
 row_brings e (Some (Column t column)) ns h = omega (arith, sum-zero ns)
 row_brings e (Some (Function f key)) ns h =
     let same : sum_by (λ n. if list_any (λ k. nat_eq k n) (map key (names_of f)) then e else 0) ns
-        ≡ sum_by (λ n. if list_any (λ k. nat_eq k n) (map key (uses f)) then e else 0) ns =
-        ap (λ g. sum_by g ns) (fun_ext (λ n. ap (λ b. if b then e else 0) (any_distinct key (uses f) n))) in
+    ≡ sum_by (λ n. if list_any (λ k. nat_eq k n) (map key (uses f)) then e else 0) ns =
+    ap (λ g. sum_by g ns) (fun_ext (λ n. ap (λ b. if b then e else 0) (any_distinct key (uses f) n))) in
     let count : length (map key (names_of f)) ≡ length (names_of f) = length-map (names_of f) key in
     rw (← same, ← count) (keyed e ns (map key (names_of f)) h)
 
@@ -112,16 +111,15 @@ pub cone_costs : (bodies : Bodies) (y : ℕ) (cone : List ℕ) → ((k : ℕ) �
     → sum_by (cost_at bodies y cone) cone ≤ gradient_cost bodies cone
 cone_costs bodies y cone h =
     let brings : ℕ → ℕ → ℕ = λ n m. if uses_at (bodies m) n then term_cost (bodies m) else 0 in
-    omega
-    (
+    omega (
       arith,
       h y,
       sum_by-le-sum_by (cost_at bodies y cone) (λ n. (if nat_eq n y then 1 else 0) + sum_by (brings n) cone) cone
-      (λ n. by (nat_eq n y) (sum-filter (λ m. term_cost (bodies m)) (λ m. uses_at (bodies m) n) cone)),
+          (λ n. by (nat_eq n y) (sum-filter (λ m. term_cost (bodies m)) (λ m. uses_at (bodies m) n) cone)),
       sum-added (λ n. if nat_eq n y then 1 else 0) (λ n. sum_by (brings n) cone) cone,
       sum-turned brings cone cone,
       sum_by-le-sum_by (λ m. sum_by (λ n. brings n m) cone) (λ m. row_cost (bodies m)) cone
-      (λ m. row_brings (term_cost (bodies m)) (bodies m) cone h),
+          (λ m. row_brings (term_cost (bodies m)) (bodies m) cone h),
     ) where
       by : {a b : ℕ} (t : Bool) → a ≡ b → (if t then 1 else a) ≤ (if t then 1 else 0) + b
       by true e = omega arith

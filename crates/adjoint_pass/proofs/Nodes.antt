@@ -1,10 +1,10 @@
 -- Quantities by numbers as nodes: what depends on what is what the graph says, and the cone is the graph's cone.
-use Rattle.std.specs.Prelude.{◌≡◌, ℕ, zero, suc, Bool, true, false, ◌||◌, nat_eq, if◌then◌else◌, List, [], ◌∷◌, ◌++◌, map, filter, reverse, drop, get_or, length, ◌<◌, is_some, Option, Some, None, refl}
-use Rattle.std.specs.Prelude.{◌⊎◌}
+use Rattle.std.specs.Prelude.{◌≡◌, ℕ, zero, suc, Bool, true, false, ◌||◌, nat_eq, if◌then◌else◌, List, [], ◌∷◌, ◌++◌, map, filter, reverse, drop, get_or, length, ◌<◌, is_some, Option, Some, None, ◌⊎◌, refl}
 use Rattle.std.specs.List.{list_any, AllByRecursion}
 use Rattle.std.proofs.Common.{arith, sym, ◌∙◌, ap, subst, inl, inr}
 use Rattle.std.proofs.lemmas.List.Folds.{list_any_at}
 use Rattle.std.proofs.lemmas.Bool.{true≢false, and_parts, or_cases, or_left, or_right, false_from_ne_true}
+use Rattle.indexmap.proofs.ReorderLemmas.{map-reverse}
 use Rattle.fixed_interval.specs.Interval.{Interval}
 use Rattle.dep_graph.specs.Nodes.{Node as GraphNode, has, ids_of, uses_in, users_in, AreOnce}
 use Rattle.dep_graph.specs.Reaching.{IsChain, Reaches, DependsOn, IsCone}
@@ -12,13 +12,14 @@ use Rattle.value_cache.specs.Quantities.{Body, Quantity, is_there}
 use Rattle.value_cache.specs.Evaluable.{AreInOrder}
 use Rattle.value_cache.specs.Rules.{Bodies, before, numbered, IsGraphOf}
 use Rattle.value_cache.proofs.Evaluable.{is_there-added}
+use Rattle.value_cache.proofs.Rules.{has-first}
 use Rattle.adjoint_pass.specs.Sweep.{Node, users, is_in_cone_through, is_in_cone, cone}
 use Rattle.adjoint_pass.specs.Sensitivities.{node_of, span_at, nodes_of, depends_on, cone_of}
 use Rattle.adjoint_pass.specs.Gathering.{part_in}
 use Rattle.adjoint_pass.proofs.Lists.{filter-map}
 use Rattle.adjoint_pass.proofs.Turns.{AreFalling}
 use Rattle.adjoint_pass.proofs.Equations.{depends_on-closed, cone_of-falling}
-use Rattle.adjoint_pass.proofs.Numbers.{same_numbers, itself, equal, same_tests, has-first, has-next, has-filter, has-reverse, filter_same, filter-reverse, map-reverse, AreApart}
+use Rattle.adjoint_pass.proofs.Numbers.{same_numbers, itself, equal, same_tests, has-next, has-filter, has-reverse, filter_same, filter-reverse, AreApart}
 use Rattle.adjoint_pass.proofs.Rows.{uses_at, uses_at-has}
 
 -- ---- the graph's order has each number once
@@ -112,7 +113,7 @@ users-back nodes bodies graph n =
 pub users_placed : (nodes : List GraphNode) (bodies : Bodies) → IsGraphOf nodes bodies → (n m : ℕ) → has (users_in nodes n) m ≡ true → is_some (bodies m) ≡ true
 users_placed nodes bodies graph n m h =
     let there = sym (has-filter (λ k. has (uses_in nodes k) n) (ids_of nodes) m)
-        ∙ ap (λ l. has l m) (sym (users-filter nodes (are_once nodes (ids-apart nodes bodies graph)) n)) ∙ h in
+    ∙ ap (λ l. has l m) (sym (users-filter nodes (are_once nodes (ids-apart nodes bodies graph)) n)) ∙ h in
     sym (graph.placed m) ∙ (and_parts (has (ids_of nodes) m) (has (uses_in nodes m) n) there).0
 
 -- ---- the nodes by their numbers

@@ -10,6 +10,7 @@ use Rattle.std.proofs.lemmas.List.Sums.{sum_by-cons}
 use mathlib.Core.List.{reverse_aux}
 use Rattle.exact_law.specs.Model.{IsSameTest}
 use Rattle.dep_graph.specs.Nodes.{has}
+use Rattle.value_cache.proofs.Rules.{has-first}
 
 pub same_numbers : IsSameTest nat_eq
 same_numbers = record { sound = λ m n h. grind (arith, nat_tests); complete = λ n. grind (arith, nat_tests) }
@@ -30,9 +31,6 @@ same_tests false true h k = k refl
 same_tests false false h k = refl
 
 -- ---- what is in a list
-pub has-first : (n : ℕ) (ns : List ℕ) → has (n ∷ ns) n ≡ true
-has-first n ns = rw (itself n) refl
-
 pub has-next : (m n : ℕ) (ns : List ℕ) → has ns n ≡ true → has (m ∷ ns) n ≡ true
 has-next m n ns h = or_right (nat_eq n m) (has ns n) h
 
@@ -110,13 +108,6 @@ filter-reverse_aux p (x ∷ xs) ys = filter-reverse_aux p xs (x ∷ ys) ∙ by (
 
 pub filter-reverse : (p : ℕ → Bool) (ns : List ℕ) → filter p (reverse ns) ≡ reverse (filter p ns)
 filter-reverse p ns = filter-reverse_aux p ns []
-
-map-reverse_aux : {X Y : Type 0} (f : X → Y) (xs ys : List X) → map f (reverse_aux xs ys) ≡ reverse_aux (map f xs) (map f ys)
-map-reverse_aux f [] ys = refl
-map-reverse_aux f (x ∷ xs) ys = map-reverse_aux f xs (x ∷ ys)
-
-pub map-reverse : {X Y : Type 0} (f : X → Y) (xs : List X) → map f (reverse xs) ≡ reverse (map f xs)
-map-reverse f xs = map-reverse_aux f xs []
 
 -- ---- lists in which none comes twice
 abbrev pub AreApart : List ℕ → Type 0

@@ -25,7 +25,7 @@ use Rattle.value_cache.proofs.Orders.{chain-found, right-evaluation}
 use Rattle.adjoint_pass.specs.Sweep.{Node, users, terms}
 use Rattle.adjoint_pass.specs.Sensitivities.{span_at, nodes_of, depends_on, cone_of, sensitivity_of, has_gradient, gradient_of}
 use Rattle.adjoint_pass.specs.Costs.{term_cost, gradient_cost}
-use Rattle.adjoint_pass.specs.Gathering.{part_in, part_at, term_at, found_among, gathered, next_span, next_cost}
+use Rattle.adjoint_pass.specs.Gathering.{part_in, part_at, term_at, found_among, gathered, next_sensitivity, next_cost}
 use Rattle.adjoint_pass.proofs.Lists.{filter-map}
 use Rattle.adjoint_pass.proofs.Equations.{sensitivity_of-solves}
 use Rattle.adjoint_pass.proofs.Numbers.{same_numbers, equal, same_tests, has-filter, has-parts, filter_same, map_same_at, all_at, filter-filter, times, once, apart-filter}
@@ -117,7 +117,7 @@ some_again (Some s) h = refl
 
 next_is : (nodes : List GraphNode) (bodies : Bodies) (cells : Found ℕ) (y : ℕ) (list : List ℕ) → IsSweep nodes bodies cells y list
     → (i n : ℕ) → i < length list → get_or list i 0 ≡ n → (found : Spans ℕ) → AreFound (S_of nodes bodies y) (take i list) found
-    → next_span nodes bodies cells y found n ≡ S_of nodes bodies y n
+    → next_sensitivity nodes bodies cells y found n ≡ S_of nodes bodies y n
 next_is nodes bodies cells y list w i n within at found h =
     ap (λ ts. if nat_eq n y then Some (point_span one_bound) else sum_of ts)
     (ap (map (term_at bodies cells found n)) (picked nodes bodies cells y list w i n within at found h)
@@ -179,12 +179,12 @@ found_next S list i n s old new within at is put h = record { same = λ m. same 
 
 -- one sensitivity more is found, from the users that are
 pub found_more : (nodes : List GraphNode) (bodies : Bodies) (cells : Found ℕ) (y : ℕ) (list : List ℕ) → IsSweep nodes bodies cells y list
-    → (i n : ℕ) (s : Interval) (old new : Spans ℕ) → i < length list → ◌≡◌ {A = Result Interval Overflow} (Ok s) (ok_or (next_span nodes bodies cells y old n) (record {}))
+    → (i n : ℕ) (s : Interval) (old new : Spans ℕ) → i < length list → ◌≡◌ {A = Result Interval Overflow} (Ok s) (ok_or (next_sensitivity nodes bodies cells y old n) (record {}))
     → ((m : ℕ) → new m ≡ (if nat_eq m n then Some s else old m)) → AreFound (S_of nodes bodies y) (take i list) old → get_or list i 0 ≡ n
     → AreFound (S_of nodes bodies y) (take (i + 1) list) new
 found_more nodes bodies cells y list w i n s old new within is put h at =
     found_next (S_of nodes bodies y) list i n s old new within at
-    (sym (next_is nodes bodies cells y list w i n within at old h) ∙ span_there (next_span nodes bodies cells y old n) s (record {}) is) put h
+    (sym (next_is nodes bodies cells y list w i n within at old h) ∙ span_there (next_sensitivity nodes bodies cells y old n) s (record {}) is) put h
 
 -- at the end
 all_seen : (S found : Spans ℕ) (list : List ℕ) (i : ℕ) → length list ≤ i → AreFound S (take i list) found → AreFound S list found
@@ -213,12 +213,12 @@ gradient_there nodes bodies cells y list w i found past h =
 
 -- where one is not found, it has left the range
 pub gradient_missing : (nodes : List GraphNode) (bodies : Bodies) (cells : Found ℕ) (y : ℕ) (list : List ℕ) → IsSweep nodes bodies cells y list
-    → (i n : ℕ) (found : Spans ℕ) (x : Overflow) → i < length list → ◌≡◌ {A = Result Interval Overflow} (Err x) (ok_or (next_span nodes bodies cells y found n) (record {}))
+    → (i n : ℕ) (found : Spans ℕ) (x : Overflow) → i < length list → ◌≡◌ {A = Result Interval Overflow} (Err x) (ok_or (next_sensitivity nodes bodies cells y found n) (record {}))
     → AreFound (S_of nodes bodies y) (take i list) found → get_or list i 0 ≡ n
     → has_gradient nat_eq (quantities nodes bodies) y ≡ false
 gradient_missing nodes bodies cells y list w i n found x within is h at =
     let none : S_of nodes bodies y n ≡ None =
-        sym (next_is nodes bodies cells y list w i n within at found h) ∙ span_missing (next_span nodes bodies cells y found n) x (record {}) is in
+    sym (next_is nodes bodies cells y list w i n within at found h) ∙ span_missing (next_sensitivity nodes bodies cells y found n) x (record {}) is in
     gradient-list nodes bodies cells y list w
     ∙ list_all_at (λ k. is_some (S_of nodes bodies y k)) list i 0 within (ap (λ k. is_some (S_of nodes bodies y k)) at ∙ ap is_some none)
 
@@ -228,7 +228,7 @@ cone_once : (nodes : List GraphNode) (bodies : Bodies) (cells : Found ℕ) (y : 
 cone_once nodes bodies cells y list w k =
     let risen : List ℕ = filter (has list) (ids_of nodes) in
     let same : times k list ≡ times k risen =
-        ap (times k) (w.cone).falling ∙ sum_by-IsPermutation (λ n. if nat_eq n k then 1 else 0) risen (reverse risen) (IsPermutation-reverse risen) in
+    ap (times k) (w.cone).falling ∙ sum_by-IsPermutation (λ n. if nat_eq n k then 1 else 0) risen (reverse risen) (IsPermutation-reverse risen) in
     omega (arith, same, once k risen (apart-filter (has list) (ids_of nodes) (ids-apart nodes bodies w.graph)))
 
 pub spent_next : (nodes : List GraphNode) (bodies : Bodies) (cells : Found ℕ) (y : ℕ) (list : List ℕ) → IsSweep nodes bodies cells y list
@@ -238,8 +238,8 @@ pub spent_next : (nodes : List GraphNode) (bodies : Bodies) (cells : Found ℕ) 
     → b + sum_by (cost_at bodies y list) (drop (i + 1) list) ≤ start + sum_by (cost_at bodies y list) list
 spent_next nodes bodies cells y list w i n a b start found within more h spent at =
     let step : sum_by (cost_at bodies y list) (drop i list) ≡ cost_at bodies y list n + sum_by (cost_at bodies y list) (drop (i + 1) list) =
-        sum_by-drop_more (cost_at bodies y list) list i 0 within
-        ∙ ap (λ k. cost_at bodies y list k + sum_by (cost_at bodies y list) (drop (i + 1) list)) at in
+    sum_by-drop_more (cost_at bodies y list) list i 0 within
+    ∙ ap (λ k. cost_at bodies y list k + sum_by (cost_at bodies y list) (drop (i + 1) list)) at in
     omega (arith, step, more, spent, cost_is nodes bodies cells y list w i n within at found h)
 
 pub spent_all : (nodes : List GraphNode) (bodies : Bodies) (cells : Found ℕ) (y : ℕ) (list : List ℕ) → IsSweep nodes bodies cells y list

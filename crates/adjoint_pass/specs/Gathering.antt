@@ -34,8 +34,8 @@ abbrev pub gathered : Bodies → Found ℕ → Spans ℕ → ℕ → List ℕ �
 gathered bodies cells found n ms = map (term_at bodies cells found n) (found_among found ms)
 
 -- the sensitivity of y to n: from its users, the last first
-abbrev pub next_span : List Node → Bodies → Found ℕ → ℕ → Spans ℕ → ℕ → Option Interval
-next_span nodes bodies cells y found n =
+abbrev pub next_sensitivity : List Node → Bodies → Found ℕ → ℕ → Spans ℕ → ℕ → Option Interval
+next_sensitivity nodes bodies cells y found n =
     if nat_eq n y then Some (point_span one_bound) else sum_of (gathered bodies cells found n (reverse (users_in nodes n)))
 
 -- what it costs to find it

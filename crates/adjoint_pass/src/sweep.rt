@@ -1,12 +1,11 @@
-ghost use Rattle.std.specs.Prelude.{◌≡◌, ◌≢◌, ◌↔◌, ℕ, ◌+◌, ◌≤◌, true, false, nat_eq, if◌then◌else◌, List, [], ◌∷◌, length, reverse, Some, Err, is_some, sum_by, IfOk, OnOk};
+ghost use Rattle.std.specs.Prelude.{◌≡◌, ◌≢◌, ◌↔◌, ℕ, ◌+◌, ◌≤◌, true, false, nat_eq, if◌then◌else◌, List, [], ◌∷◌, reverse, Some, Err, is_some, sum_by, IfOk, OnOk};
 ghost use Rattle.std.specs.Option.{ok_or};
-ghost use Rattle.dep_graph.specs.Nodes.{has, ids_of, users_in};
+ghost use Rattle.dep_graph.specs.Nodes.{has, ids_of};
 ghost use Rattle.dep_graph.specs.Reaching.{IsCone};
-ghost use Rattle.fixed_interval.specs.Rules.{product_span};
-ghost use Rattle.fixed_interval.specs.Sums.{both, sum_of, Continues, term_if};
+ghost use Rattle.fixed_interval.specs.Sums.{sum_of, Continues};
 ghost use Rattle.formula_ast.specs.Views.{tree_of};
 ghost use Rattle.formula_box.specs.Costs.{partial_cost};
-ghost use Rattle.covariance.specs.Gradients.{found_at, sensitivity};
+ghost use Rattle.covariance.specs.Gradients.{found_at};
 ghost use Rattle.value_cache.specs.Quantities.{Function};
 ghost use Rattle.value_cache.specs.Evaluations.{span_in};
 ghost use Rattle.value_cache.specs.Rules.{AreRight, IsGraphOf, numbered};
@@ -14,7 +13,7 @@ ghost use Rattle.value_cache.specs.Slots.{bodies_of, cells_of, key_by, IsNumbere
 ghost use Rattle.value_cache.specs.declared.evaluation.Evaluation.TheVariants.{Fault};
 ghost use Rattle.adjoint_pass.specs.Sensitivities.{part_of, has_gradient, gradient_of};
 ghost use Rattle.adjoint_pass.specs.Costs.{part_cost, term_cost, gradient_cost};
-ghost use Rattle.adjoint_pass.specs.Gathering.{name_beside, part_at, term_at, found_among, gathered, next_span, next_cost};
+ghost use Rattle.adjoint_pass.specs.Gathering.{name_beside, part_at, term_at, found_among, gathered, next_sensitivity, next_cost};
 
 use crate::fault::GradFault;
 use covariance::Gradient;
@@ -134,7 +133,7 @@ fn brought<L: Ledger>(
 }
 
 // The sensitivity of `y` to `n`, from those of the users of `n` that are found.
-fn next<L: Ledger>(
+fn next_sensitivity<L: Ledger>(
     graph: &Graph,
     cache: &Cache,
     y: Id,
@@ -144,7 +143,7 @@ fn next<L: Ledger>(
 ) -> Result<Span, Overflow>
     requires graph { IsGraphOf graph.now (bodies_of cache.now) }
     requires there { has (ids_of graph.now) n ≡ true }
-    ensures span { result ≡ ok_or (next_span graph.now (bodies_of cache.now) (cells_of cache.now) y (found_at found.now) n) (record {}) }
+    ensures span { result ≡ ok_or (next_sensitivity graph.now (bodies_of cache.now) (cells_of cache.now) y (found_at found.now) n) (record {}) }
     ensures ticks { steps.new ≤ steps.old + next_cost graph.now (bodies_of cache.now) y (found_at found.now) n }
 {
     if n == y {
@@ -166,7 +165,7 @@ fn sweep<L: Ledger>(
     requires cone { IsCone graph.now y cone.now }
     requires right { AreRight (bodies_of cache.now) (cells_of cache.now) }
     requires fresh { is_some (cells_of cache.now y) ≡ true }
-    ensures found { IfOk result (λ g. (n : ℕ) → found_at g n ≡ gradient_of nat_eq (numbered (bodies_of cache.now) (ids_of graph.now)) y n) }
+    ensures ok { IfOk result (λ g. (n : ℕ) → found_at g n ≡ gradient_of nat_eq (numbered (bodies_of cache.now) (ids_of graph.now)) y n) }
     ensures whole { OnOk result (has_gradient nat_eq (numbered (bodies_of cache.now) (ids_of graph.now)) y ≡ true) }
     ensures law { result ≡ Err GradFault.Law → has_gradient nat_eq (numbered (bodies_of cache.now) (ids_of graph.now)) y ≡ false }
     ensures value { (fault : ArithFault) (row : ℕ) → result ≢ Err (GradFault.Value fault row) }
@@ -174,7 +173,7 @@ fn sweep<L: Ledger>(
 {
     let mut found = Gradient::new(alloc)?;
     for n in cone {
-        let Ok(a) = next(graph, cache, y, &found, *n, steps) else {
+        let Ok(a) = next_sensitivity(graph, cache, y, &found, *n, steps) else {
             return Err(GradFault::Law);
         };
         found.put(*n, a)?;
@@ -204,7 +203,7 @@ pub fn gradient<L: Ledger>(
     requires graph { IsGraphOf graph.now (bodies_of cache.now) }
     requires there { has (ids_of graph.now) y ≡ true }
     requires fresh { is_some (cells_of cache.now y) ≡ true }
-    ensures found { IfOk result (λ g. (n : ℕ) → found_at g n ≡ gradient_of nat_eq (numbered (bodies_of cache.now) (ids_of graph.now)) y n) }
+    ensures ok { IfOk result (λ g. (n : ℕ) → found_at g n ≡ gradient_of nat_eq (numbered (bodies_of cache.now) (ids_of graph.now)) y n) }
     ensures whole { OnOk result (has_gradient nat_eq (numbered (bodies_of cache.now) (ids_of graph.now)) y ≡ true) }
     ensures value { (fault : ArithFault) (row : ℕ) → (result ≡ Err (GradFault.Value fault row)) ↔ (cells_of cache.now y ≡ Some (Fault fault row)) }
     ensures law { result ≡ Err GradFault.Law → (is_some (span_in (cells_of cache.now y)) ≡ true) × (has_gradient nat_eq (numbered (bodies_of cache.now) (ids_of graph.now)) y ≡ false) }
