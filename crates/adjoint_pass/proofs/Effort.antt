@@ -2,7 +2,7 @@
 -- names at most.
 use Rattle.std.specs.Prelude.{◌≡◌, ℕ, zero, suc, ◌+◌, ◌*◌, ◌≤◌, Bool, true, false, ◌||◌, nat_eq, if◌then◌else◌, List, [], ◌∷◌, map, find, filter, length, sum_by, is_some, Option, None, Some, refl}
 use Rattle.std.specs.List.{list_any}
-use Rattle.std.proofs.Common.{arith, sym, ◌∙◌, ap, ap₂}
+use Rattle.std.proofs.Common.{arith, sym, ◌∙◌, ap}
 use Rattle.std.proofs.Math.Nat.{suc-mul}
 use Rattle.std.proofs.lemmas.List.{length-map}
 use Rattle.std.proofs.lemmas.List.Sums.{sum_by-cons, sum_by-le-sum_by}
@@ -12,7 +12,7 @@ use Rattle.value_cache.specs.Quantities.{Body, Input, Function, Column}
 use Rattle.value_cache.specs.Rules.{Bodies}
 use Rattle.value_cache.proofs.Names.{find-distinct_keys}
 use Rattle.adjoint_pass.specs.Costs.{term_cost, name_count, row_cost, gradient_cost}
-use Rattle.adjoint_pass.proofs.Numbers.{turned, times, once}
+use Rattle.adjoint_pass.proofs.Numbers.{turned, times}
 use Rattle.adjoint_pass.proofs.Rows.{uses_at}
 
 -- ---- sums

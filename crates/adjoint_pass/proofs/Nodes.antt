@@ -7,13 +7,13 @@ use Rattle.std.proofs.lemmas.Bool.{true≢false, and_parts, or_cases, or_left, o
 use Rattle.indexmap.proofs.ReorderLemmas.{map-reverse}
 use Rattle.fixed_interval.specs.Interval.{Interval}
 use Rattle.dep_graph.specs.Nodes.{Node as GraphNode, has, ids_of, uses_in, users_in, AreOnce}
-use Rattle.dep_graph.specs.Reaching.{IsChain, Reaches, DependsOn, IsCone}
+use Rattle.dep_graph.specs.Reaching.{IsChain, DependsOn, IsCone}
 use Rattle.value_cache.specs.Quantities.{Body, Quantity, is_there}
 use Rattle.value_cache.specs.Evaluable.{AreInOrder}
 use Rattle.value_cache.specs.Rules.{Bodies, before, numbered, IsGraphOf}
 use Rattle.value_cache.proofs.Evaluable.{is_there-added}
 use Rattle.value_cache.proofs.Rules.{has-first}
-use Rattle.adjoint_pass.specs.Sweep.{Node, users, is_in_cone_through, is_in_cone, cone}
+use Rattle.adjoint_pass.specs.Sweep.{Node, users, is_in_cone_through, is_in_cone}
 use Rattle.adjoint_pass.specs.Sensitivities.{node_of, span_at, nodes_of, depends_on, cone_of}
 use Rattle.adjoint_pass.specs.Gathering.{part_in}
 use Rattle.adjoint_pass.proofs.Lists.{filter-map}

@@ -1,8 +1,8 @@
 -- Lists of numbers: what is in them, what passes a test, and lists in which none comes twice.
-use Rattle.std.specs.Prelude.{◌≡◌, ℕ, ◌+◌, ◌≤◌, ◌<◌, Bool, true, false, ◌&&◌, ◌||◌, nat_eq, if◌then◌else◌, List, [], ◌∷◌, ◌++◌, map, filter, reverse, take, drop, length, sum_by, refl}
+use Rattle.std.specs.Prelude.{◌≡◌, ℕ, ◌+◌, ◌≤◌, Bool, true, false, ◌&&◌, ◌||◌, nat_eq, if◌then◌else◌, List, [], ◌∷◌, map, filter, reverse, take, drop, sum_by, refl}
 use Rattle.std.specs.List.{list_all, list_any}
 use Rattle.std.proofs.Common.{arith, sym, ◌∙◌, ap, ap₂}
-use Rattle.std.proofs.lemmas.Bool.{true≢false, and_from, or_right, false_from_ne_true}
+use Rattle.std.proofs.lemmas.Bool.{true≢false, and_from, or_right}
 use Rattle.std.proofs.lemmas.Bool.Decides.{nat_tests}
 use Rattle.std.proofs.lemmas.List.{take-append-drop}
 use Rattle.std.proofs.lemmas.List.Folds.{list_any-append}

@@ -1,5 +1,5 @@
 -- What a row uses, and its partial derivatives, which depend on what it uses alone.
-use Rattle.std.specs.Prelude.{◌≡◌, ℕ, zero, suc, ◌+◌, ◌≤◌, ◌<◌, Bool, true, false, nat_eq, if◌then◌else◌, List, [], ◌∷◌, map, find, drop, get_or, length, Option, None, Some, Result, Ok, Err, is_some, refl}
+use Rattle.std.specs.Prelude.{◌≡◌, ℕ, zero, suc, ◌+◌, ◌≤◌, ◌<◌, Bool, true, false, nat_eq, if◌then◌else◌, List, [], ◌∷◌, map, find, drop, get_or, length, Option, None, Some, Result, Ok, Err, refl}
 use Rattle.std.specs.Option.{ok_or}
 use Rattle.std.proofs.Common.{arith, sym, ◌∙◌, ap, ap₂}
 use Rattle.std.proofs.lemmas.List.{drop_all}

@@ -1,9 +1,9 @@
 -- The sweep: with each quantity of the cone one sensitivity more is found, and it solves its equation.
-use Rattle.std.specs.Prelude.{◌≡◌, ℕ, ◌+◌, ◌≤◌, ◌<◌, Bool, true, false, ◌&&◌, ◌||◌, nat_eq, if◌then◌else◌, List, [], ◌∷◌, ◌++◌, map, filter, reverse, take, drop, get_or, length, sum_by, is_some, Option, None, Some, Result, Ok, Err, is_err, refl}
+use Rattle.std.specs.Prelude.{◌≡◌, ℕ, ◌+◌, ◌≤◌, ◌<◌, Bool, true, false, ◌||◌, nat_eq, if◌then◌else◌, List, [], map, filter, reverse, take, drop, get_or, length, sum_by, is_some, Option, None, Some, Result, Ok, Err, refl}
 use Rattle.std.specs.List.{list_all}
 use Rattle.std.specs.Option.{ok_or, unwrap_or}
 use Rattle.std.proofs.Common.{arith, sym, ◌∙◌, ap, ap₂, subst}
-use Rattle.std.proofs.lemmas.Bool.{true≢false, and_parts, and_from}
+use Rattle.std.proofs.lemmas.Bool.{true≢false, and_parts}
 use Rattle.std.proofs.lemmas.List.{take_all}
 use Rattle.std.proofs.lemmas.List.Folds.{list_any_more, list_all-map, list_all_at}
 use Rattle.std.proofs.lemmas.List.Sums.{sum_by-drop_more}
@@ -15,23 +15,23 @@ use Rattle.fixed_interval.specs.Sums.{zero_span, both, sum_of}
 use Rattle.fixed_interval.specs.declared.faults.Overflow.{Overflow}
 use Rattle.fixed_interval.proofs.Sums.{missing as span_missing, there as span_there}
 use Rattle.dep_graph.specs.Nodes.{Node as GraphNode, has, ids_of, users_in}
-use Rattle.dep_graph.specs.Reaching.{DependsOn, IsCone}
-use Rattle.covariance.specs.Gradients.{Spans, sensitivity as found_sensitivity}
+use Rattle.dep_graph.specs.Reaching.{IsCone}
+use Rattle.covariance.specs.Gradients.{Spans}
 use Rattle.value_cache.specs.Evaluations.{Found, span_in, evaluation_of}
-use Rattle.value_cache.specs.Rules.{Bodies, uses_of as used_of, AreRight, IsGraphOf}
+use Rattle.value_cache.specs.Rules.{Bodies, AreRight, IsGraphOf}
 use Rattle.value_cache.specs.declared.evaluation.Evaluation.{Evaluation}
 use Rattle.value_cache.proofs.Rules.{used-found}
 use Rattle.value_cache.proofs.Orders.{chain-found, right-evaluation}
-use Rattle.adjoint_pass.specs.Sweep.{Node, users, terms}
-use Rattle.adjoint_pass.specs.Sensitivities.{span_at, nodes_of, depends_on, cone_of, sensitivity_of, has_gradient, gradient_of}
+use Rattle.adjoint_pass.specs.Sweep.{Node, terms}
+use Rattle.adjoint_pass.specs.Sensitivities.{span_at, cone_of, sensitivity_of, has_gradient, gradient_of}
 use Rattle.adjoint_pass.specs.Costs.{term_cost, gradient_cost}
-use Rattle.adjoint_pass.specs.Gathering.{part_in, part_at, term_at, found_among, gathered, next_sensitivity, next_cost}
+use Rattle.adjoint_pass.specs.Gathering.{part_in, part_at, term_at, found_among, next_sensitivity, next_cost}
 use Rattle.adjoint_pass.proofs.Lists.{filter-map}
 use Rattle.adjoint_pass.proofs.Equations.{sensitivity_of-solves}
-use Rattle.adjoint_pass.proofs.Numbers.{same_numbers, equal, same_tests, has-filter, has-parts, filter_same, map_same_at, all_at, filter-filter, times, once, apart-filter}
-use Rattle.adjoint_pass.proofs.Rows.{uses_at, uses_at-has, part_same}
+use Rattle.adjoint_pass.proofs.Numbers.{same_numbers, equal, has-filter, has-parts, filter_same, map_same_at, all_at, filter-filter, times, once, apart-filter}
+use Rattle.adjoint_pass.proofs.Rows.{uses_at, part_same}
 use Rattle.adjoint_pass.proofs.Effort.{cost_at, cone_costs}
-use Rattle.adjoint_pass.proofs.Nodes.{quantities, node_at, nodes_at, users-back, in_cone, falling-list, cone_of-numbered, unused_later, ids-apart}
+use Rattle.adjoint_pass.proofs.Nodes.{quantities, node_at, users-back, in_cone, falling-list, cone_of-numbered, unused_later, ids-apart}
 
 -- what is known when the sweep begins, where `list` is the cone
 pub record IsSweep (nodes : List GraphNode) (bodies : Bodies) (cells : Found ℕ) (y : ℕ) (list : List ℕ) : Type 0 where

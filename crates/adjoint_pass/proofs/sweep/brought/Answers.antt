@@ -1,5 +1,5 @@
 use Rattle.std.specs.Prelude.{ℕ, ◌-◌, [], ◌∷◌, List, None, reverse, Option}
-use Rattle.std.proofs.Common.{rules, arith}
+use Rattle.std.proofs.Common.{arith}
 use Rattle.fixed_interval.specs.Interval.{Interval}
 use Rattle.fixed_interval.proofs.SumLoops.{step_there, refused_sum}
 use Rattle.covariance.specs.Gradients.{found_at}

@@ -1,10 +1,7 @@
-use Rattle.std.specs.Prelude.{◌≡◌, ◌+◌, ℕ, List, get_or}
+use Rattle.std.specs.Prelude.{◌≡◌, ◌+◌, get_or}
 use Rattle.std.proofs.Common.{sym}
 use Rattle.std.proofs.lemmas.List.{get_or_read}
 use Rattle.covariance.specs.Gradients.{found_at}
-use Rattle.dep_graph.specs.Nodes.{Node}
-use Rattle.value_cache.specs.Evaluations.{Found}
-use Rattle.value_cache.specs.Rules.{Bodies}
 use Rattle.value_cache.specs.Slots.{bodies_of, cells_of}
 use Rattle.adjoint_pass.proofs.Nodes.{place-there}
 use Rattle.adjoint_pass.proofs.Sweeping.{IsSweep, found_more, found_all, gradient_there, gradient_missing, spent_next, spent_all}
