@@ -68,7 +68,7 @@ const REFUSED_LINES: [(&str, &str); 31] = [
 ];
 
 // Commands that are refused on this sheet, and why.
-const REFUSED_COMMANDS: [(&str, &str); 27] = [
+const REFUSED_COMMANDS: [(&str, &str); 30] = [
     ("given X 1 exact", "duplicate X"),
     ("let x = Q", "duplicate x"),
     ("let Z = Q * R", "unknown Q"),
@@ -96,6 +96,9 @@ const REFUSED_COMMANDS: [(&str, &str); 27] = [
     ("value M", "no_such_result M"),
     ("value P", "no_such_result P"),
     ("value X.Y", "no_such_result X.Y"),
+    ("sens T X", "no_such_result T"),
+    ("sens Y W", "no_such_result W"),
+    ("at M sens Y P", "no_such_result P"),
 ];
 
 // Tables, and commands by their names, that are refused on this sheet, and why.
@@ -277,6 +280,17 @@ fn answers_formulas(rt: HostRuntime) -> Result<(), Fail> {
             => b"ok\nvalue P -8 -8\nok\nfault overflow Q\nrefused bad_power 11\n",
         b"given X 5 std 1\nlet A = X*2\nlet B = X*3\nlet C = B - A - X\nvalue C\n"
             => b"ok\nok\nok\nok\nvalue C 0 0\n",
+    }
+    Ok(())
+}
+
+#[test]
+fn answers_sensitivities(rt: HostRuntime) -> Result<(), Fail> {
+    assert_replies! { rt;
+        b"table T\nA,B\n1,2\n3,6\nend\nreadings R 1 2\nlet P = T.A*T.B\nlet Q = P*P - R/P\nmark M\nsens Q T.A\nsens P T.B\nset readings R 5 7\nsens Q R\nat M sens Q R\nundo\nsens Q R\n"
+            => b"ok\nok\nok\nok\nok\nsens Q T.A 64.09375 64.09375\nsens P T.B 2 2\nok\nsens Q R -0.125 -0.125\nsens Q R -0.125 -0.125\nok\nsens Q R -0.125 -0.125\n",
+        b"given X 0 exact\nlet Y = X^2\nlet Z = Y*1e17\nsens Z X\nlet W = Z*1e17\nvalue W\nsens W X\n"
+            => b"ok\nok\nok\nsens Z X 0 0\nok\nvalue W 0 0\nfault law_overflow\n",
     }
     Ok(())
 }

@@ -57,6 +57,24 @@ pub fn worked_inputs()
         ≡ codes "ok\nok\nrefused r_range\nrefused not_correlatable A\nok\nrefused in_use P\nok\nok\n" }
 {}
 
+/// Sensitivities: through a row that another uses too, of a quotient that no decimal number is, of an input to
+/// itself and of a quantity that does not depend on the input; a sensitivity out of range where the value is in
+/// range, also to another quantity than the one that is asked for; and the names that are refused.
+pub fn worked_sensitivities()
+    ensures shared { out (codes "given X 3 std 1\nlet A = X*X\nlet B = A*X\nsens B X\nsens X X\n")
+        ≡ codes "ok\nok\nok\nsens B X 27 27\nsens X X 1 1\n" }
+    ensures third { out (codes "given X 1 exact\nlet T = X/3\nsens T X\n")
+        ≡ codes "ok\nok\nsens T X 0.333333333333333333 0.333333333333333334\n" }
+    ensures overflow { out (codes "given X 0.001 exact\nlet Y = X/1e-20\nvalue Y\nsens Y X\n")
+        ≡ codes "ok\nok\nvalue Y 100000000000000000 100000000000000000\nfault law_overflow\n" }
+    ensures elsewhere { out (codes "given X 0.001 exact\ngiven Z 2 exact\nlet Y = X/1e-20 + Z\nsens Y Z\nsens X Z\n")
+        ≡ codes "ok\nok\nok\nfault law_overflow\nsens X Z 0 0\n" }
+    ensures value_fault { out (codes "given X 5 std 1\nlet Z = 1/(X-5)\nlet Y = Z*X\nsens Y X\n")
+        ≡ codes "ok\nok\nok\nfault zero_divisor Z\n" }
+    ensures names { out (codes "given X 5 std 1\nlet Y = X\nsens Z W\nsens Y Z\nsens Y Y\nat M sens Y X\n")
+        ≡ codes "ok\nok\nrefused no_such_result Z\nrefused no_such_result Z\nrefused no_such_result Y\nrefused no_mark M\n" }
+{}
+
 /// Commands that are refused, and the order of two reasons that both apply. The sheet stays as it was.
 pub fn worked_verdicts()
     ensures duplicate { out (codes "given X 5 std 1\ngiven X 6 std 1\ndump\n")
