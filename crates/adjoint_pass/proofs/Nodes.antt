@@ -3,16 +3,15 @@ use Rattle.std.specs.Prelude.{◌≡◌, ℕ, zero, suc, Bool, true, false, ◌|
 use Rattle.std.specs.List.{list_any, AllByRecursion}
 use Rattle.std.proofs.Common.{arith, sym, ◌∙◌, ap, subst, inl, inr}
 use Rattle.std.proofs.lemmas.List.Folds.{list_any_at}
-use Rattle.std.proofs.lemmas.Bool.{true≢false, and_parts, or_cases, or_left, or_right, false_from_ne_true}
+use Rattle.std.proofs.lemmas.Bool.{true≢false, and_parts, or_cases, or_left, or_right}
 use Rattle.indexmap.proofs.ReorderLemmas.{map-reverse}
 use Rattle.fixed_interval.specs.Interval.{Interval}
 use Rattle.dep_graph.specs.Nodes.{Node as GraphNode, has, ids_of, uses_in, users_in, AreOnce}
 use Rattle.dep_graph.specs.Reaching.{IsChain, DependsOn, IsCone}
-use Rattle.value_cache.specs.Quantities.{Body, Quantity, is_there}
-use Rattle.value_cache.specs.Evaluable.{AreInOrder}
+use Rattle.value_cache.specs.Quantities.{Body, Quantity}
 use Rattle.value_cache.specs.Rules.{Bodies, before, numbered, IsGraphOf}
-use Rattle.value_cache.proofs.Evaluable.{is_there-added}
 use Rattle.value_cache.proofs.Rules.{has-first}
+use Rattle.value_cache.proofs.Graphs.{graph-once}
 use Rattle.adjoint_pass.specs.Sweep.{Node, users, is_in_cone_through, is_in_cone}
 use Rattle.adjoint_pass.specs.Sensitivities.{node_of, span_at, nodes_of, depends_on, cone_of}
 use Rattle.adjoint_pass.specs.Gathering.{part_in}
@@ -22,58 +21,13 @@ use Rattle.adjoint_pass.proofs.Equations.{depends_on-closed, cone_of-falling}
 use Rattle.adjoint_pass.proofs.Numbers.{same_numbers, itself, equal, same_tests, has-next, has-filter, has-reverse, filter_same, filter-reverse, AreApart}
 use Rattle.adjoint_pass.proofs.Rows.{uses_at, uses_at-has}
 
--- ---- the graph's order has each number once
-fresh : (bodies : Bodies) (ns : List ℕ) (done : List (Quantity ℕ)) → ((n : ℕ) → has ns n ≡ true → is_some (bodies n) ≡ true)
-    → AreInOrder nat_eq done (numbered bodies ns) → (k : ℕ) → has ns k ≡ true → is_there nat_eq done k ≡ false
-fresh bodies [] done there order k h = absurd (true≢false (sym h))
-fresh bodies (m ∷ ns) done there order k h =
-    by (bodies m) refl (there m (has-first m ns)) order
-    (λ q o t. fresh bodies ns (done ++ q ∷ []) (λ n e. there n (has-next m n ns e)) o k t) where
-      old : (q : Quantity ℕ) → is_there nat_eq (done ++ q ∷ []) k ≡ false → is_there nat_eq done k ≡ false
-      old q e = part (is_there nat_eq done k) (nat_eq q.key k) (sym (is_there-added nat_eq done q k) ∙ e) where
-        part : (a b : Bool) → (if a then true else b) ≡ false → a ≡ false
-        part true b e = e
-        part false b e = refl
-
-      by : (b : Option (Body ℕ)) → bodies m ≡ b → is_some b ≡ true → AreInOrder nat_eq done (before m b (numbered bodies ns))
-          → ((q : Quantity ℕ) → AreInOrder nat_eq (done ++ q ∷ []) (numbered bodies ns) → has ns k ≡ true → is_there nat_eq (done ++ q ∷ []) k ≡ false)
-          → is_there nat_eq done k ≡ false
-      by None e some o rest = absurd (true≢false (sym some))
-      by (Some body) e some o rest = here (or_cases (nat_eq k m) (has ns k) h) where
-        here : (nat_eq k m ≡ true) ⊎ (has ns k ≡ true) → is_there nat_eq done k ≡ false
-        here (inl t) = ap (is_there nat_eq done) (equal k m t) ∙ o.0
-        here (inr t) = old (record { key = m; body = body }) (rest (record { key = m; body = body }) o.2 t)
-
-apart : (bodies : Bodies) (ns : List ℕ) (done : List (Quantity ℕ)) → ((n : ℕ) → has ns n ≡ true → is_some (bodies n) ≡ true)
-    → AreInOrder nat_eq done (numbered bodies ns) → AreApart ns
-apart bodies [] done there order = tt
-apart bodies (m ∷ ns) done there order =
-    by (bodies m) refl (there m (has-first m ns)) order
-    (λ q o. fresh bodies ns (done ++ q ∷ []) (λ n e. there n (has-next m n ns e)) o m)
-    (λ q o. apart bodies ns (done ++ q ∷ []) (λ n e. there n (has-next m n ns e)) o) where
-      added : (body : Body ℕ) → is_there nat_eq (done ++ record { key = m; body = body } ∷ []) m ≡ true
-      added body =
-          is_there-added nat_eq done (record { key = m; body = body }) m
-          ∙ ap (λ t. if is_there nat_eq done m then true else t) (itself m) ∙ either (is_there nat_eq done m) where
-            either : (a : Bool) → (if a then true else true) ≡ true
-            either true = refl
-            either false = refl
-
-      by : (b : Option (Body ℕ)) → bodies m ≡ b → is_some b ≡ true → AreInOrder nat_eq done (before m b (numbered bodies ns))
-          → ((q : Quantity ℕ) → AreInOrder nat_eq (done ++ q ∷ []) (numbered bodies ns) → has ns m ≡ true → is_there nat_eq (done ++ q ∷ []) m ≡ false)
-          → ((q : Quantity ℕ) → AreInOrder nat_eq (done ++ q ∷ []) (numbered bodies ns) → AreApart ns)
-          → AreApart (m ∷ ns)
-      by None e some o new rest = absurd (true≢false (sym some))
-      by (Some body) e some o new rest =
-          let q : Quantity ℕ = record { key = m; body = body } in
-          (false_from_ne_true (has ns m) (λ t. true≢false (sym (added body) ∙ new q o.2 t)), rest q o.2)
+-- ---- no two nodes are the same
+apart_ids : (nodes : List GraphNode) → AreOnce nodes → AreApart (ids_of nodes)
+apart_ids [] once = tt
+apart_ids (node ∷ nodes) once = (once.0, apart_ids nodes once.1)
 
 pub ids-apart : (nodes : List GraphNode) (bodies : Bodies) → IsGraphOf nodes bodies → AreApart (ids_of nodes)
-ids-apart nodes bodies graph = apart bodies (ids_of nodes) [] (λ n h. sym (graph.placed n) ∙ h) graph.earlier
-
-are_once : (nodes : List GraphNode) → AreApart (ids_of nodes) → AreOnce nodes
-are_once [] h = tt
-are_once (node ∷ nodes) h = (h.0, are_once nodes h.1)
+ids-apart nodes bodies graph = apart_ids nodes (graph-once nodes bodies graph)
 
 -- ---- users are the nodes that use it
 users-filter : (nodes : List GraphNode) → AreOnce nodes → (n : ℕ) → users_in nodes n ≡ filter (λ m. has (uses_in nodes m) n) (ids_of nodes)
@@ -105,7 +59,7 @@ users-filter (node ∷ nodes) once n = by (has node.uses n) refl (users-filter n
 pub users-back : (nodes : List GraphNode) (bodies : Bodies) → IsGraphOf nodes bodies → (n : ℕ)
     → reverse (users_in nodes n) ≡ filter (λ m. uses_at (bodies m) n) (reverse (ids_of nodes))
 users-back nodes bodies graph n =
-    ap reverse (users-filter nodes (are_once nodes (ids-apart nodes bodies graph)) n)
+    ap reverse (users-filter nodes (graph-once nodes bodies graph) n)
     ∙ sym (filter-reverse (λ m. has (uses_in nodes m) n) (ids_of nodes))
     ∙ filter_same (λ m. has (uses_in nodes m) n) (λ m. uses_at (bodies m) n) (reverse (ids_of nodes))
     (λ m h. graph.uses m n ∙ sym (uses_at-has (bodies m) n))
@@ -113,7 +67,7 @@ users-back nodes bodies graph n =
 pub users_placed : (nodes : List GraphNode) (bodies : Bodies) → IsGraphOf nodes bodies → (n m : ℕ) → has (users_in nodes n) m ≡ true → is_some (bodies m) ≡ true
 users_placed nodes bodies graph n m h =
     let there = sym (has-filter (λ k. has (uses_in nodes k) n) (ids_of nodes) m)
-    ∙ ap (λ l. has l m) (sym (users-filter nodes (are_once nodes (ids-apart nodes bodies graph)) n)) ∙ h in
+    ∙ ap (λ l. has l m) (sym (users-filter nodes (graph-once nodes bodies graph) n)) ∙ h in
     sym (graph.placed m) ∙ (and_parts (has (ids_of nodes) m) (has (uses_in nodes m) n) there).0
 
 -- ---- the nodes by their numbers

@@ -41,12 +41,12 @@ pub record IsSweep (nodes : List GraphNode) (bodies : Bodies) (cells : Found ℕ
   pub fresh : is_some (cells y) ≡ true
 
 -- the sensitivities to these are found, and no others
-pub record AreFound (S : Spans ℕ) (seen : List ℕ) (found : Spans ℕ) : Type 0 where
-  pub same : (n : ℕ) → found n ≡ (if has seen n then S n else None)
-  pub there : (n : ℕ) → has seen n ≡ true → is_some (S n) ≡ true
+pub record AreFound (a : Spans ℕ) (seen : List ℕ) (found : Spans ℕ) : Type 0 where
+  pub same : (n : ℕ) → found n ≡ (if has seen n then a n else None)
+  pub there : (n : ℕ) → has seen n ≡ true → is_some (a n) ≡ true
 
-abbrev pub S_of : List GraphNode → Bodies → ℕ → Spans ℕ
-S_of nodes bodies y = sensitivity_of nat_eq (quantities nodes bodies) y
+abbrev pub sensitivities : List GraphNode → Bodies → ℕ → Spans ℕ
+sensitivities nodes bodies y = sensitivity_of nat_eq (quantities nodes bodies) y
 
 -- ---- partial derivatives by the cells are those by the evaluations
 cell_span : (nodes : List GraphNode) (bodies : Bodies) (cells : Found ℕ) → IsGraphOf nodes bodies → AreRight bodies cells → (k : ℕ) → is_some (cells k) ≡ true
@@ -81,33 +81,33 @@ later nodes bodies cells y list w i n within at m used = by (has (drop i list) m
       (true≢false (sym used ∙ ap (uses_at (bodies m)) (sym at) ∙ unused_later nodes bodies w.graph y list w.cone i within m e))
   by false e parts = sym (parts ∙ ap (λ b. has (take i list) m || b) e ∙ or-none (has (take i list) m))
 
-is_found : (S found : Spans ℕ) (seen : List ℕ) → AreFound S seen found → (m : ℕ) → is_some (found m) ≡ has seen m
-is_found S found seen h m = ap is_some (h.same m) ∙ by (has seen m) refl where
-  by : (b : Bool) → has seen m ≡ b → is_some (if b then S m else None) ≡ b
+is_found : (a found : Spans ℕ) (seen : List ℕ) → AreFound a seen found → (m : ℕ) → is_some (found m) ≡ has seen m
+is_found a found seen h m = ap is_some (h.same m) ∙ by (has seen m) refl where
+  by : (b : Bool) → has seen m ≡ b → is_some (if b then a m else None) ≡ b
   by true e = h.there m e
   by false e = refl
 
 picked : (nodes : List GraphNode) (bodies : Bodies) (cells : Found ℕ) (y : ℕ) (list : List ℕ) → IsSweep nodes bodies cells y list
-    → (i n : ℕ) → i < length list → get_or list i 0 ≡ n → (found : Spans ℕ) → AreFound (S_of nodes bodies y) (take i list) found
+    → (i n : ℕ) → i < length list → get_or list i 0 ≡ n → (found : Spans ℕ) → AreFound (sensitivities nodes bodies y) (take i list) found
     → found_among found (reverse (users_in nodes n)) ≡ filter (λ m. uses_at (bodies m) n) list
 picked nodes bodies cells y list w i n within at found h =
     let uses : ℕ → Bool = λ m. uses_at (bodies m) n in
     let back : List ℕ = reverse (ids_of nodes) in
     ap (found_among found) (users-back nodes bodies w.graph n)
     ∙ filter_same (λ m. is_some (found m)) (has list) (filter uses back)
-    (λ m t. is_found (S_of nodes bodies y) found (take i list) h m
+    (λ m t. is_found (sensitivities nodes bodies y) found (take i list) h m
     ∙ later nodes bodies cells y list w i n within at m (and_parts (has back m) (uses m) (sym (has-filter uses back m) ∙ t)).1)
     ∙ filter-filter (has list) uses back
     ∙ ap (filter uses) (sym (falling-list nodes y list w.cone))
 
 -- what the users in the cone bring
 solved : (nodes : List GraphNode) (bodies : Bodies) (cells : Found ℕ) (y : ℕ) (list : List ℕ) → IsSweep nodes bodies cells y list → (n : ℕ)
-    → terms (S_of nodes bodies y) n (cone_of nat_eq (quantities nodes bodies) y)
-    ≡ map (λ m. both (S_of nodes bodies y m) (part_in (span_at nat_eq (quantities nodes bodies)) (bodies m) n) product_span) (filter (λ m. uses_at (bodies m) n) list)
+    → terms (sensitivities nodes bodies y) n (cone_of nat_eq (quantities nodes bodies) y)
+    ≡ map (λ m. both (sensitivities nodes bodies y m) (part_in (span_at nat_eq (quantities nodes bodies)) (bodies m) n) product_span) (filter (λ m. uses_at (bodies m) n) list)
 solved nodes bodies cells y list w n =
     let at : ℕ → Node ℕ = node_at (span_at nat_eq (quantities nodes bodies)) bodies in
-    let bring : Node ℕ → Option Interval = λ m. both (S_of nodes bodies y m.key) (m.part n) product_span in
-    ap (terms (S_of nodes bodies y) n) (cone_of-numbered nodes bodies w.graph y list w.cone)
+    let bring : Node ℕ → Option Interval = λ m. both (sensitivities nodes bodies y m.key) (m.part n) product_span in
+    ap (terms (sensitivities nodes bodies y) n) (cone_of-numbered nodes bodies w.graph y list w.cone)
     ∙ ap (map bring) (filter-map (λ m. m.uses n) at list)
     ∙ map-map bring at (filter (λ m. uses_at (bodies m) n) list)
 
@@ -116,17 +116,17 @@ some_again None h = absurd (true≢false (sym h))
 some_again (Some s) h = refl
 
 next_is : (nodes : List GraphNode) (bodies : Bodies) (cells : Found ℕ) (y : ℕ) (list : List ℕ) → IsSweep nodes bodies cells y list
-    → (i n : ℕ) → i < length list → get_or list i 0 ≡ n → (found : Spans ℕ) → AreFound (S_of nodes bodies y) (take i list) found
-    → next_sensitivity nodes bodies cells y found n ≡ S_of nodes bodies y n
+    → (i n : ℕ) → i < length list → get_or list i 0 ≡ n → (found : Spans ℕ) → AreFound (sensitivities nodes bodies y) (take i list) found
+    → next_sensitivity nodes bodies cells y found n ≡ sensitivities nodes bodies y n
 next_is nodes bodies cells y list w i n within at found h =
     ap (λ ts. if nat_eq n y then Some (point_span one_bound) else sum_of ts)
     (ap (map (term_at bodies cells found n)) (picked nodes bodies cells y list w i n within at found h)
-    ∙ map_same_at (term_at bodies cells found n) (λ m. both (S m) (part_in given (bodies m) n) product_span) (filter uses list)
+    ∙ map_same_at (term_at bodies cells found n) (λ m. both (a m) (part_in given (bodies m) n) product_span) (filter uses list)
     (λ m t. let two = and_parts (has list m) (uses m) (sym (has-filter uses list m) ∙ t) in term m two.0 two.1)
     ∙ sym (solved nodes bodies cells y list w n))
     ∙ sym (sensitivity_of-solves nat_eq same_numbers (quantities nodes bodies) w.graph.earlier y n) where
-      S : Spans ℕ
-      S = S_of nodes bodies y
+      a : Spans ℕ
+      a = sensitivities nodes bodies y
 
       given : ℕ → Option Interval
       given = span_at nat_eq (quantities nodes bodies)
@@ -134,26 +134,26 @@ next_is nodes bodies cells y list w i n within at found h =
       uses : ℕ → Bool
       uses m = uses_at (bodies m) n
 
-      term : (m : ℕ) → has list m ≡ true → uses m ≡ true → term_at bodies cells found n m ≡ both (S m) (part_in given (bodies m) n) product_span
+      term : (m : ℕ) → has list m ≡ true → uses m ≡ true → term_at bodies cells found n m ≡ both (a m) (part_in given (bodies m) n) product_span
       term m there used =
           let seen : has (take i list) m ≡ true = later nodes bodies cells y list w i n within at m used ∙ there in
-          let same : found m ≡ S m = h.same m ∙ ap (λ b. if b then S m else None) seen in
-          let known : is_some (found m) ≡ true = is_found S found (take i list) h m ∙ seen in
+          let same : found m ≡ a m = h.same m ∙ ap (λ b. if b then a m else None) seen in
+          let known : is_some (found m) ≡ true = is_found a found (take i list) h m ∙ seen in
           ap₂ (λ a p. both a p product_span) (sym (some_again (found m) known) ∙ same) (sym (part_by_cells nodes bodies cells y list w m n there))
 
 cost_is : (nodes : List GraphNode) (bodies : Bodies) (cells : Found ℕ) (y : ℕ) (list : List ℕ) → IsSweep nodes bodies cells y list
-    → (i n : ℕ) → i < length list → get_or list i 0 ≡ n → (found : Spans ℕ) → AreFound (S_of nodes bodies y) (take i list) found
+    → (i n : ℕ) → i < length list → get_or list i 0 ≡ n → (found : Spans ℕ) → AreFound (sensitivities nodes bodies y) (take i list) found
     → next_cost nodes bodies y found n ≡ cost_at bodies y list n
 cost_is nodes bodies cells y list w i n within at found h =
     ap (λ ms. if nat_eq n y then 1 else sum_by (λ m. term_cost (bodies m)) ms) (picked nodes bodies cells y list w i n within at found h)
 
 -- ---- the loop
-pub none_found : (S : Spans ℕ) (found : Spans ℕ) → ((n : ℕ) → found n ≡ None) → AreFound S [] found
-none_found S found h = record { same = h; there = λ n t. absurd (true≢false (sym t)) }
+pub none_found : (a : Spans ℕ) (found : Spans ℕ) → ((n : ℕ) → found n ≡ None) → AreFound a [] found
+none_found a found h = record { same = h; there = λ n t. absurd (true≢false (sym t)) }
 
-found_next : (S : Spans ℕ) (list : List ℕ) (i n : ℕ) (s : Interval) (old new : Spans ℕ) → i < length list → get_or list i 0 ≡ n → S n ≡ Some s
-    → ((m : ℕ) → new m ≡ (if nat_eq m n then Some s else old m)) → AreFound S (take i list) old → AreFound S (take (i + 1) list) new
-found_next S list i n s old new within at is put h = record { same = λ m. same m (nat_eq m n) refl; there = λ m t. there m (nat_eq m n) refl t } where
+found_next : (a : Spans ℕ) (list : List ℕ) (i n : ℕ) (s : Interval) (old new : Spans ℕ) → i < length list → get_or list i 0 ≡ n → a n ≡ Some s
+    → ((m : ℕ) → new m ≡ (if nat_eq m n then Some s else old m)) → AreFound a (take i list) old → AreFound a (take (i + 1) list) new
+found_next a list i n s old new within at is put h = record { same = λ m. same m (nat_eq m n) refl; there = λ m t. there m (nat_eq m n) refl t } where
   more : (m : ℕ) → has (take (i + 1) list) m ≡ (has (take i list) m || nat_eq m n)
   more m = list_any_more (nat_eq m) list i 0 within ∙ ap (λ k. has (take i list) m || nat_eq m k) at
 
@@ -165,62 +165,62 @@ found_next S list i n s old new within at is put h = record { same = λ m. same 
   or-none true = refl
   or-none false = refl
 
-  same : (m : ℕ) (b : Bool) → nat_eq m n ≡ b → new m ≡ (if has (take (i + 1) list) m then S m else None)
+  same : (m : ℕ) (b : Bool) → nat_eq m n ≡ b → new m ≡ (if has (take (i + 1) list) m then a m else None)
   same m true e =
       let yes : has (take (i + 1) list) m ≡ true = more m ∙ ap (λ b. has (take i list) m || b) e ∙ or-true (has (take i list) m) in
-      put m ∙ ap (λ b. if b then Some s else old m) e ∙ sym (ap S (equal m n e) ∙ is) ∙ ap (λ b. if b then S m else None) (sym yes)
+      put m ∙ ap (λ b. if b then Some s else old m) e ∙ sym (ap a (equal m n e) ∙ is) ∙ ap (λ b. if b then a m else None) (sym yes)
   same m false e =
       let old-test : has (take (i + 1) list) m ≡ has (take i list) m = more m ∙ ap (λ b. has (take i list) m || b) e ∙ or-none (has (take i list) m) in
-      put m ∙ ap (λ b. if b then Some s else old m) e ∙ h.same m ∙ ap (λ b. if b then S m else None) (sym old-test)
+      put m ∙ ap (λ b. if b then Some s else old m) e ∙ h.same m ∙ ap (λ b. if b then a m else None) (sym old-test)
 
-  there : (m : ℕ) (b : Bool) → nat_eq m n ≡ b → has (take (i + 1) list) m ≡ true → is_some (S m) ≡ true
-  there m true e t = ap is_some (ap S (equal m n e) ∙ is)
+  there : (m : ℕ) (b : Bool) → nat_eq m n ≡ b → has (take (i + 1) list) m ≡ true → is_some (a m) ≡ true
+  there m true e t = ap is_some (ap a (equal m n e) ∙ is)
   there m false e t = h.there m (sym (more m ∙ ap (λ b. has (take i list) m || b) e ∙ or-none (has (take i list) m)) ∙ t)
 
 -- one sensitivity more is found, from the users that are
 pub found_more : (nodes : List GraphNode) (bodies : Bodies) (cells : Found ℕ) (y : ℕ) (list : List ℕ) → IsSweep nodes bodies cells y list
     → (i n : ℕ) (s : Interval) (old new : Spans ℕ) → i < length list → ◌≡◌ {A = Result Interval Overflow} (Ok s) (ok_or (next_sensitivity nodes bodies cells y old n) (record {}))
-    → ((m : ℕ) → new m ≡ (if nat_eq m n then Some s else old m)) → AreFound (S_of nodes bodies y) (take i list) old → get_or list i 0 ≡ n
-    → AreFound (S_of nodes bodies y) (take (i + 1) list) new
+    → ((m : ℕ) → new m ≡ (if nat_eq m n then Some s else old m)) → AreFound (sensitivities nodes bodies y) (take i list) old → get_or list i 0 ≡ n
+    → AreFound (sensitivities nodes bodies y) (take (i + 1) list) new
 found_more nodes bodies cells y list w i n s old new within is put h at =
-    found_next (S_of nodes bodies y) list i n s old new within at
+    found_next (sensitivities nodes bodies y) list i n s old new within at
     (sym (next_is nodes bodies cells y list w i n within at old h) ∙ span_there (next_sensitivity nodes bodies cells y old n) s (record {}) is) put h
 
 -- at the end
-all_seen : (S found : Spans ℕ) (list : List ℕ) (i : ℕ) → length list ≤ i → AreFound S (take i list) found → AreFound S list found
-all_seen S found list i past h = subst (λ seen. AreFound S seen found) (take_all i list past) h
+all_seen : (a found : Spans ℕ) (list : List ℕ) (i : ℕ) → length list ≤ i → AreFound a (take i list) found → AreFound a list found
+all_seen a found list i past h = subst (λ seen. AreFound a seen found) (take_all i list past) h
 
 pub found_all : (nodes : List GraphNode) (bodies : Bodies) (cells : Found ℕ) (y : ℕ) (list : List ℕ) → IsSweep nodes bodies cells y list
-    → (i : ℕ) (found : Spans ℕ) → length list ≤ i → AreFound (S_of nodes bodies y) (take i list) found
+    → (i : ℕ) (found : Spans ℕ) → length list ≤ i → AreFound (sensitivities nodes bodies y) (take i list) found
     → (n : ℕ) → found n ≡ gradient_of nat_eq (quantities nodes bodies) y n
 found_all nodes bodies cells y list w i found past h n =
-    let all = all_seen (S_of nodes bodies y) found list i past h in
-    all.same n ∙ ap (λ b. if b then S_of nodes bodies y n else None) (sym (in_cone nodes bodies w.graph y list w.cone n))
+    let all = all_seen (sensitivities nodes bodies y) found list i past h in
+    all.same n ∙ ap (λ b. if b then sensitivities nodes bodies y n else None) (sym (in_cone nodes bodies w.graph y list w.cone n))
 
 gradient-list : (nodes : List GraphNode) (bodies : Bodies) (cells : Found ℕ) (y : ℕ) (list : List ℕ) → IsSweep nodes bodies cells y list
-    → has_gradient nat_eq (quantities nodes bodies) y ≡ list_all (λ n. is_some (S_of nodes bodies y n)) list
+    → has_gradient nat_eq (quantities nodes bodies) y ≡ list_all (λ n. is_some (sensitivities nodes bodies y n)) list
 gradient-list nodes bodies cells y list w =
-    let there : Node ℕ → Bool = λ m. is_some (S_of nodes bodies y m.key) in
+    let there : Node ℕ → Bool = λ m. is_some (sensitivities nodes bodies y m.key) in
     ap (list_all there) (cone_of-numbered nodes bodies w.graph y list w.cone)
     ∙ list_all-map there (node_at (span_at nat_eq (quantities nodes bodies)) bodies) list
 
 pub gradient_there : (nodes : List GraphNode) (bodies : Bodies) (cells : Found ℕ) (y : ℕ) (list : List ℕ) → IsSweep nodes bodies cells y list
-    → (i : ℕ) (found : Spans ℕ) → length list ≤ i → AreFound (S_of nodes bodies y) (take i list) found
+    → (i : ℕ) (found : Spans ℕ) → length list ≤ i → AreFound (sensitivities nodes bodies y) (take i list) found
     → has_gradient nat_eq (quantities nodes bodies) y ≡ true
 gradient_there nodes bodies cells y list w i found past h =
     gradient-list nodes bodies cells y list w
-    ∙ all_at (λ n. is_some (S_of nodes bodies y n)) list (all_seen (S_of nodes bodies y) found list i past h).there
+    ∙ all_at (λ n. is_some (sensitivities nodes bodies y n)) list (all_seen (sensitivities nodes bodies y) found list i past h).there
 
 -- where one is not found, it has left the range
 pub gradient_missing : (nodes : List GraphNode) (bodies : Bodies) (cells : Found ℕ) (y : ℕ) (list : List ℕ) → IsSweep nodes bodies cells y list
     → (i n : ℕ) (found : Spans ℕ) (x : Overflow) → i < length list → ◌≡◌ {A = Result Interval Overflow} (Err x) (ok_or (next_sensitivity nodes bodies cells y found n) (record {}))
-    → AreFound (S_of nodes bodies y) (take i list) found → get_or list i 0 ≡ n
+    → AreFound (sensitivities nodes bodies y) (take i list) found → get_or list i 0 ≡ n
     → has_gradient nat_eq (quantities nodes bodies) y ≡ false
 gradient_missing nodes bodies cells y list w i n found x within is h at =
-    let none : S_of nodes bodies y n ≡ None =
+    let none : sensitivities nodes bodies y n ≡ None =
     sym (next_is nodes bodies cells y list w i n within at found h) ∙ span_missing (next_sensitivity nodes bodies cells y found n) x (record {}) is in
     gradient-list nodes bodies cells y list w
-    ∙ list_all_at (λ k. is_some (S_of nodes bodies y k)) list i 0 within (ap (λ k. is_some (S_of nodes bodies y k)) at ∙ ap is_some none)
+    ∙ list_all_at (λ k. is_some (sensitivities nodes bodies y k)) list i 0 within (ap (λ k. is_some (sensitivities nodes bodies y k)) at ∙ ap is_some none)
 
 -- ---- what it costs
 cone_once : (nodes : List GraphNode) (bodies : Bodies) (cells : Found ℕ) (y : ℕ) (list : List ℕ) → IsSweep nodes bodies cells y list
@@ -233,7 +233,7 @@ cone_once nodes bodies cells y list w k =
 
 pub spent_next : (nodes : List GraphNode) (bodies : Bodies) (cells : Found ℕ) (y : ℕ) (list : List ℕ) → IsSweep nodes bodies cells y list
     → (i n a b start : ℕ) (found : Spans ℕ) → i < length list → b ≤ a + next_cost nodes bodies y found n
-    → AreFound (S_of nodes bodies y) (take i list) found
+    → AreFound (sensitivities nodes bodies y) (take i list) found
     → a + sum_by (cost_at bodies y list) (drop i list) ≤ start + sum_by (cost_at bodies y list) list → get_or list i 0 ≡ n
     → b + sum_by (cost_at bodies y list) (drop (i + 1) list) ≤ start + sum_by (cost_at bodies y list) list
 spent_next nodes bodies cells y list w i n a b start found within more h spent at =
