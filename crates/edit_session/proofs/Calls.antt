@@ -65,6 +65,10 @@ not_asked wanted (Ok answer) h k = absurd h
 not_asked wanted (Err fault) h k =
     reply_refused NoMemoryToAsk Said AskRefused (λ reply. RepliesWith reply wanted) fault (λ e. k) (λ n. absurd (n h))
 
+-- an answer gives the reply that says it
+pub said : (wanted : Reply) (answer : Answer) → Said answer ≡ wanted → (reply : Option Reply) → IsAskReply (Ok answer) reply → RepliesWith reply wanted
+said wanted answer e = reply_given NoMemoryToAsk Said AskRefused (λ reply. RepliesWith reply wanted) answer e
+
 pub ask_does : (state : State) (query : Query) (given : Option Reply) → RepliesWith given (reply_to state.present query) → Does state (Ask query) state given
 ask_does state query None h = (refl, h)
 ask_does state query (Some reply) h = ap (λ r. (state, r)) (sym h)

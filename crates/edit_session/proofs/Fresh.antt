@@ -16,8 +16,8 @@ use Rattle.sheet_edits.proofs.Verdicts.{gives_part, no_quantity}
 use Rattle.value_cache.specs.Quantities.{Quantity, is_there}
 use Rattle.value_cache.proofs.Evaluable.{is_there-added}
 use Rattle.edit_session.specs.Replies.{row_quantities}
-use Rattle.edit_session.specs.Walks.{Quantities, AreFresh}
-use Rattle.edit_session.proofs.Names.{names, row_names, there-is_quantity}
+use Rattle.edit_session.specs.Walks.{Quantities, names, AreFresh}
+use Rattle.edit_session.proofs.Names.{row_names, there-is_quantity}
 
 -- ---- the quantities of one row
 column_same : (table a b : List ℕ) → column_name table a ≡ column_name table b → a ≡ b

@@ -3,8 +3,14 @@ pub mod Standing
 pub mod Steps
 pub mod Calls
 pub mod Names
+pub mod Numbers
+pub mod Kept
+pub mod Formulas
 pub mod Fresh
 pub mod Columns
 pub mod Walking
+pub mod Inputs
+pub mod Asked
 pub mod Rebuilding
 pub mod ReplyLaws
+pub mod Gradients

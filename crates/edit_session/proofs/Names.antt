@@ -1,5 +1,5 @@
 -- The names of a sheet's quantities are those that its rows give.
-use Rattle.std.specs.Prelude.{◌≡◌, ℕ, ◌+◌, Bool, true, false, List, [], ◌∷◌, ◌++◌, map, bytes_eq, refl}
+use Rattle.std.specs.Prelude.{◌≡◌, ℕ, ◌+◌, Bool, true, false, List, [], ◌∷◌, ◌++◌, bytes_eq, refl}
 use Rattle.std.specs.List.{flat_map, list_any}
 use Rattle.std.proofs.Common.{sym, ◌∙◌, ap, ap₂}
 use Rattle.std.proofs.lemmas.List.{map-append}
@@ -9,6 +9,7 @@ use Rattle.sheet_rows.specs.Rows.{Row, Given, Readings, Joint, Correlation, Form
 use Rattle.sheet_edits.specs.Sheets.{quantities_in, is_quantity_in}
 use Rattle.value_cache.specs.Quantities.{Quantity, is_there}
 use Rattle.edit_session.specs.Replies.{column_quantities, row_quantities}
+use Rattle.edit_session.specs.Walks.{names}
 
 both : (a b : Bool) → (a ≡ true → b ≡ true) → (b ≡ true → a ≡ true) → a ≡ b
 both true b f g = sym (f refl)
@@ -20,9 +21,6 @@ named-comm a b =
     both (bytes_eq a b) (bytes_eq b a)
     (λ e. (bytes_eq-Decides b a).1 (sym ((bytes_eq-Decides a b).0 e)))
     (λ e. (bytes_eq-Decides a b).1 (sym ((bytes_eq-Decides b a).0 e)))
-
-abbrev pub names : List (Quantity (List ℕ)) → List (List ℕ)
-names qs = map (λ q. q.key) qs
 
 names_of_columns : (name : List ℕ) (table : Table) (place : ℕ) (columns : List (List ℕ))
     → names (column_quantities name table place columns) ≡ column_names name columns
@@ -43,7 +41,7 @@ all_names (row ∷ rows) =
     map-append (λ (q : Quantity (List ℕ)). q.key) (row_quantities row) (flat_map row_quantities rows)
     ∙ ap₂ (λ a b. a ++ b) (row_names row) (all_names rows)
 
-there-named : (qs : List (Quantity (List ℕ))) (n : List ℕ) → is_there bytes_eq qs n ≡ list_any (bytes_eq n) (names qs)
+pub there-named : (qs : List (Quantity (List ℕ))) (n : List ℕ) → is_there bytes_eq qs n ≡ list_any (bytes_eq n) (names qs)
 there-named [] n = refl
 there-named (q ∷ qs) n = by (bytes_eq q.key n) refl (there-named qs n) where
   by : (same : Bool) → bytes_eq q.key n ≡ same → is_there bytes_eq qs n ≡ list_any (bytes_eq n) (names qs)

@@ -1,8 +1,9 @@
 -- In a sheet that stands each row has new names and uses quantities of the rows before it.
 use Rattle.std.specs.Prelude.{◌≡◌, ℕ, suc, ◌+◌, ◌<◌, ◌≤◌, Bool, true, false, ◌||◌, not, bytes_eq, List, [], ◌∷◌, ◌++◌, map, drop, length, refl}
-use Rattle.std.specs.List.{list_all, flat_map}
+use Rattle.std.specs.List.{AllZip, list_all, flat_map}
 use Rattle.std.proofs.Common.{arith, sym, ◌∙◌, ap, ap₂, subst, get_or, drop-cons, add-one}
-use Rattle.std.proofs.lemmas.List.{drop_all, append_assoc, append-nil, flat_map_more, map-id}
+use Rattle.std.proofs.lemmas.Grind.{flat_map-append}
+use Rattle.std.proofs.lemmas.List.{drop_all, append_assoc, append-nil, flat_map_more}
 use Rattle.std.proofs.lemmas.Bool.{and_parts, or_parts, and_from, not-true}
 use Rattle.formula_ast.specs.Trees.{uses}
 use Rattle.formula_ast.specs.Printing.{print}
@@ -14,17 +15,23 @@ use Rattle.sheet_edits.specs.Standing.{IsStanding}
 use Rattle.sheet_edits.proofs.Conditions.{other_way, all_none, list_all_agree}
 use Rattle.sheet_edits.proofs.Regular.{regular_added}
 use Rattle.sheet_edits.proofs.Verdicts.{added_has}
-use Rattle.value_cache.specs.Quantities.{is_there, first_unknown}
+use Rattle.dep_graph.specs.Nodes.{ids_of}
+use Rattle.value_cache.specs.Quantities.{is_there}
 use Rattle.value_cache.specs.Model.{AllHaveExponents}
-use Rattle.value_cache.specs.Evaluable.{IsEvaluable, Keeps}
-use Rattle.value_cache.specs.Cells.{Cells, kept}
-use Rattle.value_cache.proofs.Adding.{same_names, keeps_empty, unknown_same, uses_names}
+use Rattle.value_cache.specs.Evaluable.{IsEvaluable, AreInOrder}
+use Rattle.value_cache.specs.Rules.{numbered, IsGraphOf}
+use Rattle.value_cache.specs.Slots.{bodies_of}
 use Rattle.value_cache.proofs.Evaluable.{evaluable_empty, evaluable-added}
+use Rattle.adjoint_pass.specs.Renaming.{IsRenamed}
 use Rattle.edit_session.specs.Replies.{row_quantities, quantities}
-use Rattle.edit_session.specs.Walks.{Quantities, KnowsUses, AreFresh, AllUseOnly, IsNext, Follow, IsWalked}
+use Rattle.edit_session.specs.Walks.{Quantities, AreFresh, AllUseOnly, Follow}
+use Rattle.edit_session.specs.Numbering.{number_among, AreKept, AreNext, CanTake, Takes, IsWalked}
+use Rattle.edit_session.specs.declared.numbering.Numbered.{Numbered}
 use Rattle.edit_session.proofs.Names.{there-is_quantity}
 use Rattle.edit_session.proofs.Fresh.{fresh_by}
 use Rattle.edit_session.proofs.Columns.{known_columns, columns_have_exponents}
+use Rattle.edit_session.proofs.Formulas.{same_names, uses_names}
+use Rattle.edit_session.proofs.Kept.{order-append}
 
 -- ---- rows
 pub exponents_of_rows : (rows : List Row) → AreRegular rows → AllHaveExponents (flat_map row_quantities rows)
@@ -111,36 +118,73 @@ rows_evaluable before (row ∷ rest) h next =
 pub evaluable : (sheet : Sheet) → IsStanding sheet → IsEvaluable bytes_eq (quantities sheet)
 evaluable sheet h = rows_evaluable [] sheet.rows (evaluable_empty bytes_eq) (rows_follow sheet h)
 
+-- ---- each uses those before it alone
+pub in_order : (before qs : Quantities) → AreFresh before qs → AllUseOnly before qs → AreInOrder bytes_eq before qs
+in_order before [] fresh uses = tt
+in_order before (q ∷ qs) fresh uses = (fresh.0, uses.0.known, in_order (before ++ q ∷ []) qs fresh.1 uses.1)
+
+rows_in_order : (before rest : List Row) → Follow before rest → AreInOrder bytes_eq (flat_map row_quantities before) (flat_map row_quantities rest)
+rows_in_order before [] next = tt
+rows_in_order before (row ∷ rest) next =
+    order-append bytes_eq (flat_map row_quantities before) (row_quantities row) (flat_map row_quantities rest)
+    (in_order (flat_map row_quantities before) (row_quantities row) next.0.fresh next.0.known)
+    (subst (λ qs. AreInOrder bytes_eq qs (flat_map row_quantities rest)) (sym (flat_map_more row_quantities [] before row))
+    (rows_in_order (before ++ row ∷ []) rest next.1))
+
+pub quantities_in_order : (sheet : Sheet) → IsStanding sheet → AreInOrder bytes_eq [] (quantities sheet)
+quantities_in_order sheet h = rows_in_order [] sheet.rows (rows_follow sheet h)
+
 -- ---- the walk
-pub walk_begins : (sheet : Sheet) (rest : List Row) → IsStanding sheet → rest ≡ sheet.rows → IsWalked sheet.rows rest []
-walk_begins sheet rest h e =
-    record { before = []; whole = e; keeps = keeps_empty bytes_eq; follow = subst (Follow []) (sym e) (rows_follow sheet h) }
+keeps_none : (all : Quantities) (kept : Numbered) → kept.names.keys ≡ [] → kept.graph ≡ [] → kept.cache ≡ [] → AreKept all [] kept
+keeps_none all kept e f g = record {
+  named = e;
+  ids = ap ids_of f;
+  graph =
+      subst (λ nodes. IsGraphOf nodes (bodies_of kept.cache)) (sym f)
+      (subst (λ slots. IsGraphOf [] (bodies_of slots)) (sym g) (record { placed = λ n. refl; uses = λ n m. refl; earlier = tt }));
+  each =
+      subst (λ nodes. AllZip (IsRenamed (number_among all)) [] (numbered (bodies_of kept.cache) (ids_of nodes))) (sym f) tt;
+}
 
-pub knows_uses : (before : List Row) (row : Row) (cells : Cells) → Keeps bytes_eq (flat_map row_quantities before) (kept cells) → IsNext before row
-    → KnowsUses cells row
-knows_uses before (Given name estimate shape dof) cells keeps next = tt
-knows_uses before (Readings name table) cells keeps next = tt
-knows_uses before (Joint name columns table) cells keeps next = tt
-knows_uses before (Correlation name first second coefficient) cells keeps next = tt
-knows_uses before (Formula name f) cells keeps next =
-    unknown_same (flat_map row_quantities before) cells keeps f
-    ∙ ap (first_unknown bytes_eq (flat_map row_quantities before)) (sym (map-id (uses f))) ∙ next.known.0.known
+pub walk_begins : (sheet : Sheet) (rest : List Row) (kept : Numbered) → IsStanding sheet → rest ≡ sheet.rows
+    → kept.names.keys ≡ [] → kept.graph ≡ [] → kept.cache ≡ [] → IsWalked sheet.rows rest kept
+walk_begins sheet rest kept h e names graph cache = record {
+  before = [];
+  whole = e;
+  are = keeps_none (quantities sheet) kept names graph cache;
+  follow = subst (Follow []) (sym e) (rows_follow sheet h);
+}
 
-pub walked_on : (rows rest : List Row) (row : Row) (cells cells' : Cells) → IsWalked rows (row ∷ rest) cells
-    → ((qs : Quantities) → Keeps bytes_eq qs (kept cells) → AreFresh qs (row_quantities row) → Keeps bytes_eq (qs ++ row_quantities row) (kept cells'))
-    → IsWalked rows rest cells'
-walked_on rows rest row cells cells' walked add = record {
+next_row : (rows rest : List Row) (row : Row) (kept : Numbered) (walked : IsWalked rows (row ∷ rest) kept)
+    → AreNext (flat_map row_quantities rows) (flat_map row_quantities walked.before) (row_quantities row)
+next_row rows rest row kept walked = record {
+  rest = flat_map row_quantities rest;
+  whole = sym (flat_map-append row_quantities walked.before (row ∷ rest)) ∙ ap (flat_map row_quantities) walked.whole;
+  order = in_order (flat_map row_quantities walked.before) (row_quantities row) walked.follow.0.fresh walked.follow.0.known;
+}
+
+pub can_take : (rows rest : List Row) (row : Row) (kept : Numbered) → IsWalked rows (row ∷ rest) kept → CanTake kept (row_quantities row)
+can_take rows rest row kept walked = record {
+  all = flat_map row_quantities rows;
+  before = flat_map row_quantities walked.before;
+  are = walked.are;
+  next = next_row rows rest row kept walked;
+}
+
+pub walked_on : (rows rest : List Row) (row : Row) (old new : Numbered) → IsWalked rows (row ∷ rest) old → Takes old (row_quantities row) new
+    → IsWalked rows rest new
+walked_on rows rest row old new walked takes = record {
   before = walked.before ++ row ∷ [];
   whole = append_assoc walked.before (row ∷ []) rest ∙ walked.whole;
-  keeps =
-      subst (λ qs. Keeps bytes_eq qs (kept cells')) (flat_map_more row_quantities [] walked.before row)
-      (add (flat_map row_quantities walked.before) walked.keeps walked.follow.0.fresh);
+  are =
+      subst (λ qs. AreKept (flat_map row_quantities rows) qs new) (flat_map_more row_quantities [] walked.before row)
+      (takes (flat_map row_quantities rows) (flat_map row_quantities walked.before) walked.are (next_row rows rest row old walked));
   follow = walked.follow.1;
 }
 
-pub walk_ends : (sheet : Sheet) (cells : Cells) → IsWalked sheet.rows [] cells → Keeps bytes_eq (quantities sheet) (kept cells)
-walk_ends sheet cells walked =
-    subst (λ rows. Keeps bytes_eq (flat_map row_quantities rows) (kept cells)) (sym (append-nil walked.before) ∙ walked.whole) walked.keeps
+pub walk_ends : (sheet : Sheet) (kept : Numbered) → IsWalked sheet.rows [] kept → AreKept (quantities sheet) (quantities sheet) kept
+walk_ends sheet kept walked =
+    subst (λ rows. AreKept (quantities sheet) (flat_map row_quantities rows) kept) (sym (append-nil walked.before) ∙ walked.whole) walked.are
 
 -- ---- the rows that are left
 pub left_next : {A B : Type 0} (f : A → B) (items : List A) (i : ℕ) (x : A) → x ≡ get_or items i x → i < length items

@@ -6,4 +6,5 @@ pub mod Standing
 pub mod States
 pub mod Calls
 pub mod Walks
+pub mod Numbering
 pub mod Rebuild

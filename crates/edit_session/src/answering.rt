@@ -1,13 +1,15 @@
 ghost use Rattle.std.specs.Prelude.{◌≡◌, IfOk, OnOk, Option};
 ghost use Rattle.sheet_rows.specs.Regular.{AreRegular};
-ghost use Rattle.answers.specs.declared.command.Query.TheVariants.{Value as AskValue};
+ghost use Rattle.answers.specs.declared.command.Query.TheVariants.{Value as AskValue, Sensitivity as AskSensitivity};
 ghost use Rattle.answers.specs.Replies.{IsRegularAnswer};
 ghost use Rattle.answers.specs.declared.reply.Reply.{Reply};
 ghost use Rattle.edit_session.specs.Replies.{reply_to};
 ghost use Rattle.edit_session.specs.Sound.{IsSoundAnswer};
 ghost use Rattle.edit_session.specs.Calls.{IsAskReply, RepliesWith};
+ghost use Rattle.edit_session.specs.Numbering.{HasNumber, IsWithout};
 
-use crate::valuing::values_of;
+use crate::numbering::Numbered;
+use adjoint_pass::{GradFault, gradient};
 use answers::{Answer, AskFault, Query};
 use fixed_interval::Steps;
 use formula_ast::Name;
@@ -22,7 +24,8 @@ use value_cache::Evaluation;
 ///
 /// # Errors
 ///
-/// [`AskFault::NoSuchResult`] exactly where the query names no quantity of the sheet, or out of memory.
+/// [`AskFault::NoSuchResult`] exactly where the query names no quantity of the sheet, or no input where it asks
+/// for one, with the first such name; or out of memory.
 pub(crate) fn ask_sheet<L: Ledger>(
     alloc: Global,
     sheet: &Sheet,
@@ -35,6 +38,7 @@ pub(crate) fn ask_sheet<L: Ledger>(
 {
     match query {
         Query::Value(name) => value_of(alloc, sheet, *name, steps),
+        Query::Sensitivity(y, x) => sensitivity_of(alloc, sheet, *y, *x, steps),
         Query::Dump => {
             let rows = rows_of(alloc, sheet)?;
             Ok(Answer::Dump(rows))
@@ -58,10 +62,52 @@ fn value_of<L: Ledger>(
     }
     // The sheet stands, as the contract of `rows` says, so that each of its quantities has an evaluation.
     let _rows = sheet.rows();
-    let values = values_of(alloc, sheet, steps)?;
-    match values.get(name).unwrap() {
+    let mut numbered = Numbered::new(alloc, sheet)?;
+    let id = numbered.number(&name);
+    match numbered.cell(id, steps)? {
         Evaluation::Enclosed(span) => Ok(Answer::Value(name, span)),
-        Evaluation::Fault(fault, row) => Ok(Answer::ValueFault(fault, row)),
+        Evaluation::Fault(fault, row) => Ok(Answer::ValueFault(fault, numbered.name(row))),
+    }
+}
+
+// The sensitivity of the quantity `y` to the input `x`, where both are there.
+fn sensitivity_of<L: Ledger>(
+    alloc: Global,
+    sheet: &Sheet,
+    y: Name,
+    x: Name,
+    steps: &mut Steps<L>,
+) -> Result<Answer, AskFault>
+    ensures reply { (reply : Option Reply) → IsAskReply result reply → RepliesWith reply (reply_to sheet.now (AskSensitivity y x)) }
+    ensures sound { IfOk result (λ answer. IsSoundAnswer sheet.now answer) }
+    ensures regular { IfOk result IsRegularAnswer }
+{
+    if !sheet.has_quantity(&y) {
+        return Err(AskFault::NoSuchResult(y));
+    }
+    if !sheet.has_input(&x) {
+        return Err(AskFault::NoSuchResult(x));
+    }
+    // The sheet stands, as the contract of `rows` says.
+    let _rows = sheet.rows();
+    let mut numbered = Numbered::new(alloc, sheet)?;
+    let id = numbered.number(&y);
+    let _cell = numbered.cell(id, steps)?;
+    match gradient(alloc, &numbered.graph, &numbered.cache, id, steps) {
+        Ok(found) => Ok(Answer::Sensitivity(y, x, found.at(numbered.number(&x)))),
+        Err(fault) => without_gradient(&numbered, fault),
+    }
+}
+
+// The answer to a query that needs the sensitivities of a quantity, where this fault stands in their place.
+fn without_gradient(numbered: &Numbered, fault: GradFault) -> Result<Answer, AskFault>
+    requires { HasNumber numbered.now.names.keys fault }
+    ensures { IsWithout numbered.now.names.keys fault result }
+{
+    match fault {
+        GradFault::Value(fault, row) => Ok(Answer::ValueFault(fault, numbered.name(row))),
+        GradFault::Law => Ok(Answer::LawOverflow),
+        GradFault::OutOfMemory => Err(AskFault::OutOfMemory),
     }
 }
 

@@ -5,10 +5,10 @@
 mod answering;
 mod edits;
 mod laws;
+mod numbering;
 mod session;
 #[cfg(test)]
 mod tests;
-mod valuing;
 
 pub use laws::{
     every_reply_is_sound, names_of_quantities_have_values, rebuilt_sheets_reply_alike,

@@ -169,7 +169,8 @@ impl Session {
     ///
     /// # Errors
     ///
-    /// [`AskFault::NoSuchResult`] exactly where the query names no quantity of the sheet, or out of memory.
+    /// [`AskFault::NoSuchResult`] exactly where the query names no quantity of the sheet, or no input where it
+    /// asks for one, with the first such name; or out of memory.
     pub fn ask<L: Ledger>(
         &mut self,
         query: &Query,
@@ -187,7 +188,7 @@ impl Session {
     /// # Errors
     ///
     /// [`AskFault::NoMark`] exactly where no mark has the name, and then [`AskFault::NoSuchResult`] exactly
-    /// where the query names no quantity of the sheet, or out of memory.
+    /// where the query names no quantity of the sheet, or no input where it asks for one; or out of memory.
     pub fn ask_at<L: Ledger>(
         &mut self,
         mark: &Name,
