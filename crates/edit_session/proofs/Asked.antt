@@ -19,6 +19,7 @@ use Rattle.value_cache.specs.Evaluable.{AreInOrder}
 use Rattle.value_cache.specs.Rules.{AreRight, numbered, IsGraphOf}
 use Rattle.value_cache.specs.Slots.{Slots, bodies_of, cells_of}
 use Rattle.value_cache.proofs.Orders.{right-evaluation}
+use Rattle.value_cache.proofs.Graphs.{graph-same}
 use Rattle.value_cache.specs.declared.evaluation.Evaluation.{Evaluation}
 use Rattle.value_cache.specs.declared.evaluation.Evaluation.TheVariants.{Enclosed, Fault}
 use Rattle.adjoint_pass.specs.Renaming.{IsRenamed, AreRenamed, renamed_evaluation}
@@ -39,7 +40,9 @@ kept_still all done old new named graph same are =
     record {
       named = ap (λ ns. ns.keys) named ∙ are.named;
       ids = ap ids_of graph ∙ are.ids;
-      graph = subst (λ g. IsGraphOf g (bodies_of new.cache)) (sym graph) (subst (IsGraphOf old.graph) (sym bodies) are.graph);
+      graph =
+          subst (λ g. IsGraphOf g (bodies_of new.cache)) (sym graph)
+          (graph-same old.graph (bodies_of old.cache) (bodies_of new.cache) same are.graph);
       each = subst (AllZip (IsRenamed (number_among all)) done) (sym (ap₂ (λ b g. numbered b (ids_of g)) bodies graph)) are.each;
     }
 
@@ -57,7 +60,7 @@ pub cell_evaluates : (graph : List Node) (old new : Slots) → IsGraphOf graph (
 cell_evaluates graph old new is same right id cell found =
     let bodies : bodies_of new ≡ bodies_of old = fun_ext same in
     subst (λ b. evaluation_of nat_eq (numbered b (ids_of graph)) id ≡ Some cell) bodies
-    (right-evaluation graph (bodies_of new) (cells_of new) (subst (IsGraphOf graph) (sym bodies) is) right id cell found)
+    (right-evaluation graph (bodies_of new) (cells_of new) (graph-same graph (bodies_of old) (bodies_of new) same is) right id cell found)
 
 -- ---- the row in which a fault arose is that of a quantity
 module _ {K : Type 0} (same : K → K → Bool) (qs : List (Quantity K)) where

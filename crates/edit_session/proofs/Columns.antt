@@ -2,16 +2,15 @@
 use Rattle.std.specs.Prelude.{◌≡◌, ℕ, ◌+◌, ◌<◌, ◌≤◌, List, [], ◌∷◌, ◌++◌, drop, length, None, refl}
 use Rattle.std.proofs.Common.{arith, sym, ◌∙◌, ap, subst, get_or}
 use Rattle.std.proofs.lemmas.List.{append_assoc, append-nil, drop_more, drop_all}
-use Rattle.dep_graph.specs.Nodes.{has}
 use Rattle.type_a.specs.Tables.{Table, width_of, refusal}
 use Rattle.sheet_rows.specs.Rows.{column_name}
 use Rattle.value_cache.specs.Quantities.{Column, Quantity}
 use Rattle.value_cache.specs.Model.{AllHaveExponents}
-use Rattle.value_cache.specs.Slots.{body_view}
+use Rattle.value_cache.specs.Slots.{body_view, IsPlaceable}
 use Rattle.value_cache.specs.declared.body.Body.{Body as CodeBody}
 use Rattle.edit_session.specs.Replies.{column_quantity, column_quantities}
 use Rattle.edit_session.specs.Walks.{Quantities, AllUseOnly}
-use Rattle.edit_session.specs.Numbering.{numbers_in, AreKept, AreNext, StandsFor, AreWalked}
+use Rattle.edit_session.specs.Numbering.{AreKept, AreNext, StandsFor, AreWalked}
 use Rattle.edit_session.specs.declared.numbering.Numbered.{Numbered}
 
 -- ---- bodies
@@ -38,9 +37,9 @@ next_rest all before qs q next =
 
 -- ---- the walk over the columns
 pub column_stands : (number : List ℕ → ℕ) (name : List ℕ) (table : Table) (place : ℕ) (column : List ℕ) (body : CodeBody)
-    → body_view body ≡ Column table place → numbers_in body ≡ []
+    → body_view body ≡ Column table place → IsPlaceable body
     → StandsFor number (column_quantity name table (place, column)) (column_name name column) body
-column_stands number name table place column body view none = record { key = refl; renamed = view; uses = λ m. ap (λ ns. has ns m) none }
+column_stands number name table place column body view placeable = record { key = refl; renamed = view; placeable = placeable }
 
 module _ (all before : Quantities) (name : List ℕ) (table : Table) (columns : List (List ℕ)) where
   pub columns_begin : (kept : Numbered) → AreKept all before kept → AreNext all before (column_quantities name table 0 columns)

@@ -1,23 +1,21 @@
 -- Formulas by names, and the numbers for which their names stand.
-use Rattle.std.specs.Prelude.{◌≡◌, ℕ, Bool, true, false, ◌||◌, not, if◌then◌else◌, is_some, bytes_eq, nat_eq, List, [], ◌∷◌, map, length, find, Option, Some, None, refl}
+use Rattle.std.specs.Prelude.{◌≡◌, ℕ, Bool, true, false, ◌||◌, not, if◌then◌else◌, is_some, bytes_eq, List, [], ◌∷◌, map, length, find, Option, Some, None, refl}
 use Rattle.std.specs.List.{list_any, list_all}
 use Rattle.std.specs.Option.{unwrap_or}
 use Rattle.std.proofs.Common.{sym, ◌∙◌, ap, ap₂, subst}
-use Rattle.std.proofs.lemmas.Bool.{true≢false, and_parts, and_from}
+use Rattle.std.proofs.lemmas.Bool.{true≢false, and_parts}
 use Rattle.std.proofs.lemmas.List.{map-id, length-map}
 use Rattle.std.proofs.lemmas.Slice.Eq.{bytes_eq-Decides}
 use Rattle.exact_law.specs.Model.{IsSameTest}
-use Rattle.dep_graph.specs.Nodes.{has}
 use Rattle.formula_ast.specs.Trees.{Tree, HasExponents, uses, distinct, names_of}
 use Rattle.value_cache.specs.Quantities.{Function, is_there, first_unknown, by_names}
 use Rattle.value_cache.specs.Evaluable.{UsesOnly}
 use Rattle.value_cache.specs.Slots.{id_of, key_by, body_view, IsNumbered, IsPlaceable}
 use Rattle.value_cache.specs.declared.body.Body.{Body as CodeBody}
 use Rattle.value_cache.proofs.Names.{find-distinct}
-use Rattle.adjoint_pass.proofs.Partials.{any-map}
 use Rattle.sheet_edits.proofs.Conditions.{same_name, none_all, list_all_agree}
 use Rattle.edit_session.specs.Walks.{Quantities, names}
-use Rattle.edit_session.specs.Numbering.{number_in, number_among, numbers_in, AreKept, AreNext, CanTake, StandsFor, CanAdd}
+use Rattle.edit_session.specs.Numbering.{number_in, number_among, AreKept, AreNext, StandsFor}
 use Rattle.edit_session.specs.declared.numbering.Numbered.{Numbered}
 use Rattle.edit_session.proofs.Names.{there-named}
 use Rattle.edit_session.proofs.Numbers.{is_in, number_kept}
@@ -63,25 +61,20 @@ mapped_same f g (n ∷ ns) same =
 
 -- the body of a formula, with the numbers of its names, stands for it
 formula_stands : (number : List ℕ → ℕ) (name : List ℕ) (f g : Tree) (body : CodeBody) (ns : List (List ℕ)) (ids : List ℕ)
-    → body_view body ≡ Function g (key_by ns ids) → numbers_in body ≡ ids → g ≡ f → ns ≡ names_of f → ids ≡ map number ns
+    → body_view body ≡ Function g (key_by ns ids) → IsPlaceable body → g ≡ f → ns ≡ names_of f → ids ≡ map number ns
     → StandsFor number (record { key = name; body = by_names f }) name body
-formula_stands number name f g body ns ids view kept same distinct_names numbers =
-    let numbers_are : ids ≡ map number (names_of f) = numbers ∙ ap (map number) distinct_names in
-    record {
-      key = refl;
-      renamed = (
-        key_by ns ids,
-        view ∙ ap (λ t. Function t (key_by ns ids)) same,
-        ap₂ (λ ms ks. map (key_by ms ks) (uses f)) distinct_names numbers_are
-            ∙ mapped_same (key_by (names_of f) (map number (names_of f))) number (uses f)
-            (λ n e. key_of number (names_of f) n (any-distinct (bytes_eq n) (uses f) ∙ e))
-            ∙ ap (map number) (sym (map-id (uses f))),
-      );
-      uses =
-          λ m. ap (λ ks. has ks m) (kept ∙ numbers_are)
-          ∙ any-map (nat_eq m) number (names_of f) ∙ any-distinct (λ n. nat_eq m (number n)) (uses f)
-          ∙ sym (any-map (nat_eq m) number (uses f)) ∙ ap (λ us. has (map number us) m) (sym (map-id (uses f)));
-    }
+formula_stands number name f g body ns ids view placeable same distinct_names numbers = record {
+  key = refl;
+  renamed = (
+    key_by ns ids,
+    view ∙ ap (λ t. Function t (key_by ns ids)) same,
+    ap₂ (λ ms ks. map (key_by ms ks) (uses f)) distinct_names (numbers ∙ ap (map number) distinct_names)
+        ∙ mapped_same (key_by (names_of f) (map number (names_of f))) number (uses f)
+        (λ n e. key_of number (names_of f) n (any-distinct (bytes_eq n) (uses f) ∙ e))
+        ∙ ap (map number) (sym (map-id (uses f))),
+  );
+  placeable = placeable;
+}
 
 -- ---- a formula that follows what the code keeps
 module _ (all before : Quantities) (name : List ℕ) (f : Tree) (kept : Numbered) (are : AreKept all before kept)
@@ -113,10 +106,10 @@ module _ (all before : Quantities) (name : List ℕ) (f : Tree) (kept : Numbered
             by false f t rest = rest t
 
   pub formula_follows : (g : Tree) (body : CodeBody) (ns : List (List ℕ)) (ids : List ℕ)
-      → body_view body ≡ Function g (key_by ns ids) → numbers_in body ≡ ids → g ≡ f → ns ≡ names_of f → ids ≡ map (number_in kept.names.keys) ns
+      → body_view body ≡ Function g (key_by ns ids) → IsPlaceable body → g ≡ f → ns ≡ names_of f → ids ≡ map (number_in kept.names.keys) ns
       → StandsFor (number_among all) (record { key = name; body = by_names f }) name body
-  formula_follows g body ns ids view numbers same distinct_names are_numbers =
-      formula_stands (number_among all) name f g body ns ids view numbers same distinct_names (are_numbers ∙ numbers_among ns distinct_names)
+  formula_follows g body ns ids view placeable same distinct_names are_numbers =
+      formula_stands (number_among all) name f g body ns ids view placeable same distinct_names (are_numbers ∙ numbers_among ns distinct_names)
 
 -- the numbers of its names are as many as these
 pub numbers_placeable : (number : List ℕ → ℕ) (f g : Tree) (ns : List (List ℕ)) (ids : List ℕ) → HasExponents f → g ≡ f → ns ≡ names_of f
@@ -125,14 +118,4 @@ numbers_placeable number f g ns ids h same distinct_names are_numbers = record {
   exponents = subst HasExponents (sym same) h;
   named = distinct_names ∙ ap names_of (sym same);
   numbers = ap length are_numbers ∙ length-map ns number;
-}
-
-pub can_add_formula : (name : List ℕ) (f g : Tree) (kept : Numbered) → CanTake kept (record { key = name; body = by_names f } ∷ [])
-    → (body : CodeBody) (ns : List (List ℕ)) (ids : List ℕ) → body_view body ≡ Function g (key_by ns ids) → numbers_in body ≡ ids → IsPlaceable body
-    → g ≡ f → ns ≡ names_of f → ids ≡ map (number_in kept.names.keys) ns → CanAdd kept name body
-can_add_formula name f g kept can body ns ids view numbers placeable same distinct_names are_numbers = record {
-  quantity = record { key = name; body = by_names f };
-  can = can;
-  stands = formula_follows can.all can.before name f kept can.are can.next g body ns ids view numbers same distinct_names are_numbers;
-  placeable = placeable;
 }

@@ -1,10 +1,10 @@
 -- The quantities of a sheet by numbers, which are their places among them, as the code keeps them.
 use Rattle.std.specs.Prelude.{◌≡◌, ℕ, ◌<◌, bytes_eq, List, [], ◌∷◌, ◌++◌, length, map, drop, slice_get, Some, Result, Ok, Err}
 use Rattle.std.specs.List.{AllZip, flat_map, position_or_len}
-use Rattle.dep_graph.specs.Nodes.{has, ids_of}
+use Rattle.dep_graph.specs.Nodes.{ids_of}
 use Rattle.type_a.specs.Tables.{Table}
 use Rattle.sheet_rows.specs.Rows.{Row}
-use Rattle.value_cache.specs.Quantities.{Quantity, used_by}
+use Rattle.value_cache.specs.Quantities.{Quantity}
 use Rattle.value_cache.specs.Evaluable.{AreInOrder}
 use Rattle.value_cache.specs.Rules.{numbered, IsGraphOf}
 use Rattle.value_cache.specs.Slots.{body_view, IsPlaceable, bodies_of}
@@ -69,14 +69,13 @@ numbers_in (CodeFormula formula used ids) = ids
 pub record StandsFor (number : List ℕ → ℕ) (q : Quantity (List ℕ)) (name : List ℕ) (body : CodeBody) : Type 0 where
   pub key : q.key ≡ name
   pub renamed : IsRenamedBody number q.body (body_view body)
-  pub uses : (m : ℕ) → has (numbers_in body) m ≡ has (map number (used_by q.body)) m
+  pub placeable : IsPlaceable body
 
 -- those that the code keeps can be followed by the one for which the body stands
 pub record CanAdd (kept : Numbered) (name : List ℕ) (body : CodeBody) : Type 0 where
   pub quantity : Quantity (List ℕ)
   pub can : CanTake kept (quantity ∷ [])
   pub stands : StandsFor (number_among can.all) quantity name body
-  pub placeable : IsPlaceable body
 
 -- ---- walks
 -- the walk has these rows left, and the code keeps the quantities of those before them

@@ -1,5 +1,8 @@
-ghost use Rattle.std.specs.Prelude.{◌≡◌, true, IfSome};
+ghost use Rattle.std.specs.Prelude.{◌≡◌, true, Ok, IfOk, IfSome};
 ghost use Rattle.formula_ast.specs.Names.{is_plain_name};
+ghost use Rattle.formula_ast.specs.Printing.{print};
+ghost use Rattle.formula_ast.specs.Reading.{reading_of};
+ghost use Rattle.formula_ast.specs.Views.{tree_of};
 ghost use Rattle.sheet_rows.specs.Rows.{row_of};
 ghost use Rattle.sheet_rows.specs.Regular.{IsRegular};
 
@@ -7,13 +10,16 @@ use crate::Session;
 use answers::{Answer, AskFault, Edit, HistoryFault, MarkFault, Query};
 use decimal18::Dec;
 use fixed_interval::Steps;
-use formula_ast::Name;
+use formula_ast::{Formula, Name, read_formula};
 use sheet_rows::{EditFault, Row, RowList};
 use std::alloc::Global;
 use std::marker::Brand;
 use std::process::Abort;
+use std::rc::Rc;
 use std::sync::ledger::{Blank, Ledger};
 use std::test::Fail;
+use table_records::read_records;
+use type_a::Readings;
 use type_b::{Dof, Shape};
 
 // A command; rows and marks are named by letters.
@@ -92,6 +98,17 @@ const EDITS: [(Step, Outcome); 17] = [
     (Step::Value(b'Y'), Outcome::NoSuchResult(b'Y')),
 ];
 
+// Names in queries for sensitivities, over the table T of A, whose mean is 2, and B, whose mean is 4, and the
+// formula Y, which is T.A * T.B. The first name is looked for first.
+const SLOPES: [(&str, &str, Outcome); 6] = [
+    ("Y", "T.B", Outcome::Number(2)),
+    ("Y", "T.A", Outcome::Number(4)),
+    ("T.A", "T.B", Outcome::Number(0)),
+    ("Y", "Y", Outcome::NoSuchResult(b'Y')),
+    ("T", "R", Outcome::NoSuchResult(b'T')),
+    ("Y", "T", Outcome::NoSuchResult(b'T')),
+];
+
 // What follows 256 settings and as many undos.
 const LAST_UNDO: [(Step, Outcome); 4] = [
     (Step::Undo, Outcome::NothingToUndo),
@@ -115,6 +132,45 @@ fn given(byte: u8, value: i64) -> Option<Row>
         estimate: Dec::new(value, 0)?,
         shape: Shape::Exact,
         dof: Dof::Inf,
+    })
+}
+
+// The row of a table of two columns.
+fn table(alloc: Global) -> Result<Row, Fail>
+    ensures { IfOk result (λ row. IsRegular (row_of row)) }
+{
+    let name = letter(b'T').ok_or("no name")?;
+    let Ok(records) = read_records(alloc, b"A,B\n1,3\n3,5\n") else {
+        return Err("no table")?;
+    };
+    let Ok(readings) = Readings::new(alloc, records.rows.as_slice()) else {
+        return Err("not taken")?;
+    };
+    Ok(Row::Joint {
+        name,
+        columns: records.columns,
+        readings: Rc::new(alloc, readings)?,
+    })
+}
+
+fn formula_of(alloc: Global, text: &[u8]) -> Result<Formula, &'static str>
+    ensures { IfOk result (λ f. reading_of (print (tree_of f)) ≡ Ok (tree_of f)) }
+{
+    match read_formula(alloc, text) {
+        Ok(formula) => Ok(formula),
+        Err(_) => Err("not a formula"),
+    }
+}
+
+// The row of a formula over its columns.
+fn product(alloc: Global) -> Result<Row, Fail>
+    ensures { IfOk result (λ row. IsRegular (row_of row)) }
+{
+    let name = letter(b'Y').ok_or("no name")?;
+    let formula = formula_of(alloc, b"T.A*T.B")?;
+    Ok(Row::Formula {
+        name,
+        formula: Rc::new(alloc, formula)?,
     })
 }
 
@@ -150,12 +206,15 @@ fn of_mark(done: Result<(), MarkFault>) -> Outcome {
     }
 }
 
-// A value by its lower end, and the rows by the place of `name` among them.
+// A value or a sensitivity by its lower end, and the rows by the place of `name` among them.
 fn of_answer(answer: Result<Answer, AskFault>, name: &Name) -> Outcome {
     match &answer {
         Ok(Answer::Value(_, span)) => Outcome::Number(span.lo().coefficient()),
+        Ok(Answer::Sensitivity(_, _, span)) => Outcome::Number(span.lo().coefficient()),
         Ok(Answer::Dump(rows)) => place_in(rows, name),
-        Ok(Answer::ValueFault(..)) | Err(AskFault::OutOfMemory) => Outcome::Other,
+        Ok(Answer::ValueFault(..) | Answer::LawOverflow) | Err(AskFault::OutOfMemory) => {
+            Outcome::Other
+        }
         Err(AskFault::NoMark(name)) => Outcome::NoMark(of_letter(name)),
         Err(AskFault::NoSuchResult(name)) => Outcome::NoSuchResult(of_letter(name)),
     }
@@ -245,4 +304,27 @@ fn run_all<L: Ledger>(rt: &impl Abort, alloc: Global, blank: Blank) -> Result<()
 #[test]
 fn sessions_keep_the_past_and_marks(rt: HostRuntime) -> Result<(), Fail> {
     run_all::<Brand>(&rt, rt.alloc(), Blank::new(1))
+}
+
+fn slopes<L: Ledger>(rt: &impl Abort, alloc: Global, blank: Blank) -> Result<(), Fail>
+    requires name { blank.name ≡ L.name }
+    requires parts { blank.parts ≡ L.parts }
+    requires one { L.parts ≡ 1 }
+{
+    let mut steps: Steps<L> = Steps::new(blank);
+    let mut session = Session::new(alloc)?;
+    assert_eq!(rt; of_edit(session.edit(Edit::Add(table(alloc)?))), Outcome::Done);
+    assert_eq!(rt; of_edit(session.edit(Edit::Add(product(alloc)?))), Outcome::Done);
+    for (y, x, wanted) in SLOPES {
+        let y = Name::new(y.as_bytes()).ok_or("no name")?;
+        let x = Name::new(x.as_bytes()).ok_or("no name")?;
+        let answer = session.ask(&Query::Sensitivity(y, x), &mut steps);
+        assert_eq!(rt; of_answer(answer, &y), wanted);
+    }
+    Ok(())
+}
+
+#[test]
+fn columns_of_tables_have_sensitivities(rt: HostRuntime) -> Result<(), Fail> {
+    slopes::<Brand>(&rt, rt.alloc(), Blank::new(1))
 }

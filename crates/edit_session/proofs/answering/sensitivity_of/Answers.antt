@@ -67,7 +67,7 @@ returns-in-Ok-clause-reply g c =
     let found = is_found (quantities sheet) c.in_ok-numbered.numbered c.cell.new.self c.args.y c.number-id.result c.in_ok-_cell._cell
     c.in_ok-numbered.ensures c.number-id.ensures c.cell.ensures.names c.cell.ensures.graph c.cell.ensures.bodies c.in_ok-_cell.ensures.evaluation in
     let slope = found_slope (quantities sheet) c.cell.new.self order c.args.y y_there c.number-id.result c.in_ok-_cell._cell found
-    c.args.x (input_there sheet c.args.x input) c.in-Ok.found c.in-Ok.ensures.found c.in-Ok.ensures.whole
+    c.args.x (input_there sheet c.args.x input) c.in-Ok.found c.in-Ok.ensures.ok c.in-Ok.ensures.whole
     (cells_of c.cell.new.self.cache c.number-id.result) c.in_ok-_cell.ensures.cell c.in-Ok.ensures.value c.number.result c.number.ensures c.at.result c.at.ensures in
     said (reply_to sheet (AskSensitivity c.args.y c.args.x)) (Sensitivity c.args.y c.args.x c.at.result)
     (slope_said sheet c.args.y c.args.x there input slope.span slope.value slope.whole c.at.result slope.slope)
@@ -83,7 +83,7 @@ returns-in-Ok-clause-sound g c =
     let found = is_found (quantities sheet) c.in_ok-numbered.numbered c.cell.new.self c.args.y c.number-id.result c.in_ok-_cell._cell
     c.in_ok-numbered.ensures c.number-id.ensures c.cell.ensures.names c.cell.ensures.graph c.cell.ensures.bodies c.in_ok-_cell.ensures.evaluation in
     let slope = found_slope (quantities sheet) c.cell.new.self order c.args.y y_there c.number-id.result c.in_ok-_cell._cell found
-    c.args.x (input_there sheet c.args.x input) c.in-Ok.found c.in-Ok.ensures.found c.in-Ok.ensures.whole
+    c.args.x (input_there sheet c.args.x input) c.in-Ok.found c.in-Ok.ensures.ok c.in-Ok.ensures.whole
     (cells_of c.cell.new.self.cache c.number-id.result) c.in_ok-_cell.ensures.cell c.in-Ok.ensures.value c.number.result c.number.ensures c.at.result c.at.ensures in
     slope_sound sheet standing c.args.y c.args.x there input slope.span slope.value c.at.result slope.slope
 

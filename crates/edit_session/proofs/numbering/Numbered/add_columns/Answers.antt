@@ -1,4 +1,4 @@
-use Rattle.std.proofs.Common.{◌≡◌, ◌++◌, ◌∷◌, [], ◌<◌, arith, sym, ◌∙◌, ap, subst, refl}
+use Rattle.std.proofs.Common.{◌≡◌, ◌++◌, ◌∷◌, [], ◌<◌, arith, sym, ap, subst}
 use Rattle.type_a.specs.Tables.{width_of}
 use Rattle.value_cache.specs.Quantities.{Column}
 use Rattle.value_cache.specs.declared.body.Body.TheVariants.{Column as CodeColumn}
@@ -29,8 +29,7 @@ add-requires c =
         are = walked.are;
         next = next_first can.all (can.before ++ walked.done) _ (column_quantity c.args.table.now table (place, column)) next;
       };
-      stands = column_stands (number_among can.all) c.args.table.now table place column (CodeColumn c.in_ok-clone.field-0 place) (ap (λ t. Column t place) c.in_ok-clone.ensures.cases) refl;
-      placeable = within;
+      stands = column_stands (number_among can.all) c.args.table.now table place column (CodeColumn c.in_ok-clone.field-0 place) (ap (λ t. Column t place) c.in_ok-clone.ensures.cases) within;
     })
 
 pub loop-place-preserved : goal.loop-place-preserved
@@ -38,12 +37,13 @@ loop-place-preserved c = λ all before are next.
     let place = c.loop-place.place in
     let column = c.index-columns-place.result in
     let table = c.args.readings.now.value in
+    let within : place < width_of c.in_ok-clone.field-0.value = subst (λ t. place < width_of t) (sym c.in_ok-clone.ensures.cases) (omega (arith, c.requires.regular.3, c.loop-place-test.true)) in
     columns_on all before c.args.table.now table c.args.columns.now place column c.loop-place.self c.add.new.self
     (c.loop-place.invariant all before are next) c.loop-place-test.true c.index-columns-place.is
     (λ done held following.
     c.in_ok-add.ensures all done (column_quantity c.args.table.now table (place, column)) held following
     (subst (λ name. StandsFor (number_among all) (column_quantity c.args.table.now table (place, column)) name (CodeColumn c.in_ok-clone.field-0 place)) (sym c.column_name.ensures)
-    (column_stands (number_among all) c.args.table.now table place column (CodeColumn c.in_ok-clone.field-0 place) (ap (λ t. Column t place) c.in_ok-clone.ensures.cases) refl)))
+    (column_stands (number_among all) c.args.table.now table place column (CodeColumn c.in_ok-clone.field-0 place) (ap (λ t. Column t place) c.in_ok-clone.ensures.cases) within)))
 
 pub returns : goal.returns
 returns c = λ all before are next.

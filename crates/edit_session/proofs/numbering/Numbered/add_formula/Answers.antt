@@ -3,7 +3,7 @@ use Rattle.formula_ast.specs.Trees.{names_of}
 use Rattle.formula_ast.specs.Views.{tree_of}
 use Rattle.value_cache.specs.Quantities.{Quantity, by_names}
 use Rattle.edit_session.specs.Numbering.{number_in}
-use Rattle.edit_session.proofs.Formulas.{names_kept, formula_follows, numbers_placeable, can_add_formula}
+use Rattle.edit_session.proofs.Formulas.{names_kept, formula_follows, numbers_placeable}
 use Rattle.edit_session.proofs.Kept.{takes_on}
 use Rattle.edit_session.proofs.numbering.Numbered.add_formula.Goals as goal
 
@@ -15,11 +15,17 @@ numbers-requires c =
 
 pub add-requires : goal.add-requires
 add-requires c =
+    let can = c.requires.next in
     let same = ap tree_of c.in_ok-clone.ensures.cases in
     let used = c.in_ok-used.ensures ∙ ap (λ f. names_of (tree_of f)) c.deref.ensures in
-    can_add_formula c.args.name (tree_of c.args.formula.now.value) _ c.args.self.now c.requires.next _ _ _ refl refl
-    (numbers_placeable (number_in c.args.self.now.names.keys) (tree_of c.args.formula.now.value) _ _ _ c.requires.exponents same used c.in_ok-ids.ensures)
-    same used c.in_ok-ids.ensures
+    record {
+      quantity = record { key = c.args.name; body = by_names (tree_of c.args.formula.now.value) };
+      can = can;
+      stands =
+          formula_follows can.all can.before c.args.name (tree_of c.args.formula.now.value) c.args.self.now can.are can.next _ _ _ _ refl
+          (numbers_placeable (number_in c.args.self.now.names.keys) (tree_of c.args.formula.now.value) _ _ _ c.requires.exponents same used c.in_ok-ids.ensures)
+          same used c.in_ok-ids.ensures;
+    }
 
 pub returns : goal.returns
 returns c =
@@ -28,4 +34,6 @@ returns c =
     let used = c.in_ok-used.ensures ∙ ap (λ f. names_of (tree_of f)) c.deref.ensures in
     takes_on c.add.result c.args.self.now c.add.new.self (q ∷ [])
     (λ all before are next. c.add.ensures all before q are next
-    (formula_follows all before c.args.name (tree_of c.args.formula.now.value) c.args.self.now are next _ _ _ _ refl refl same used c.in_ok-ids.ensures))
+    (formula_follows all before c.args.name (tree_of c.args.formula.now.value) c.args.self.now are next _ _ _ _ refl
+    (numbers_placeable (number_in c.args.self.now.names.keys) (tree_of c.args.formula.now.value) _ _ _ c.requires.exponents same used c.in_ok-ids.ensures)
+    same used c.in_ok-ids.ensures))
