@@ -313,8 +313,14 @@ fn slopes<L: Ledger>(rt: &impl Abort, alloc: Global, blank: Blank) -> Result<(),
 {
     let mut steps: Steps<L> = Steps::new(blank);
     let mut session = Session::new(alloc)?;
-    assert_eq!(rt; of_edit(session.edit(Edit::Add(table(alloc)?))), Outcome::Done);
-    assert_eq!(rt; of_edit(session.edit(Edit::Add(product(alloc)?))), Outcome::Done);
+    assert_eq!(rt;
+        of_edit(session.edit(Edit::Add(table(alloc)?))),
+        Outcome::Done
+    );
+    assert_eq!(rt;
+        of_edit(session.edit(Edit::Add(product(alloc)?))),
+        Outcome::Done
+    );
     for (y, x, wanted) in SLOPES {
         let y = Name::new(y.as_bytes()).ok_or("no name")?;
         let x = Name::new(x.as_bytes()).ok_or("no name")?;
