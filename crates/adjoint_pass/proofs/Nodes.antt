@@ -4,6 +4,8 @@ use Rattle.std.specs.List.{list_any, AllByRecursion}
 use Rattle.std.proofs.Common.{arith, sym, ◌∙◌, ap, subst, inl, inr}
 use Rattle.std.proofs.lemmas.List.Folds.{list_any_at}
 use Rattle.std.proofs.lemmas.Bool.{true≢false, and_parts, or_cases, or_left, or_right}
+use Rattle.dep_graph.proofs.Orders.{same-when, has-filter, has-reverse, filter-same}
+use Rattle.dep_graph.proofs.Searches.{chain-more}
 use Rattle.indexmap.proofs.ReorderLemmas.{map-reverse}
 use Rattle.fixed_interval.specs.Interval.{Interval}
 use Rattle.dep_graph.specs.Nodes.{Node as GraphNode, has, ids_of, uses_in, users_in, AreOnce}
@@ -18,7 +20,7 @@ use Rattle.adjoint_pass.specs.Gathering.{part_in}
 use Rattle.adjoint_pass.proofs.Lists.{filter-map}
 use Rattle.adjoint_pass.proofs.Turns.{AreFalling}
 use Rattle.adjoint_pass.proofs.Equations.{depends_on-closed, cone_of-falling}
-use Rattle.adjoint_pass.proofs.Numbers.{same_numbers, itself, equal, same_tests, has-next, has-filter, has-reverse, filter_same, filter-reverse, AreApart}
+use Rattle.adjoint_pass.proofs.Numbers.{same_numbers, itself, equal, has-next, filter-reverse, AreApart}
 use Rattle.adjoint_pass.proofs.Rows.{uses_at, uses_at-has}
 
 -- ---- no two nodes are the same
@@ -39,7 +41,7 @@ users-filter (node ∷ nodes) once n = by (has node.uses n) refl (users-filter n
 
   others : filter (λ m. has (uses_in nodes m) n) (ids_of nodes) ≡ filter (λ m. has (uses_in (node ∷ nodes) m) n) (ids_of nodes)
   others =
-      filter_same (λ m. has (uses_in nodes m) n) (λ m. has (uses_in (node ∷ nodes) m) n) (ids_of nodes)
+      filter-same (λ m. has (uses_in nodes m) n) (λ m. has (uses_in (node ∷ nodes) m) n) (ids_of nodes)
       (λ m h. other m h (nat_eq m node.id) refl)
 
   first : (b : Bool) → nat_eq node.id node.id ≡ b → has node.uses n ≡ has (if b then node.uses else uses_in nodes node.id) n
@@ -61,7 +63,7 @@ pub users-back : (nodes : List GraphNode) (bodies : Bodies) → IsGraphOf nodes 
 users-back nodes bodies graph n =
     ap reverse (users-filter nodes (graph-once nodes bodies graph) n)
     ∙ sym (filter-reverse (λ m. has (uses_in nodes m) n) (ids_of nodes))
-    ∙ filter_same (λ m. has (uses_in nodes m) n) (λ m. uses_at (bodies m) n) (reverse (ids_of nodes))
+    ∙ filter-same (λ m. has (uses_in nodes m) n) (λ m. uses_at (bodies m) n) (reverse (ids_of nodes))
     (λ m h. graph.uses m n ∙ sym (uses_at-has (bodies m) n))
 
 pub users_placed : (nodes : List GraphNode) (bodies : Bodies) → IsGraphOf nodes bodies → (n m : ℕ) → has (users_in nodes n) m ≡ true → is_some (bodies m) ≡ true
@@ -127,10 +129,6 @@ any_user given bodies p m n used passes (k ∷ ks) h =
       by true e (inr t) rest = or_right (p k) (list_any (λ u. p u.key) (users n (map (node_at given bodies) ks))) (rest t)
       by false e (inl t) rest = absurd (true≢false (sym used ∙ ap (λ j. uses_at (bodies j) n) (equal m k t) ∙ e))
       by false e (inr t) rest = rest t
-
-chain-more : (next : ℕ → List ℕ) (ms : List ℕ) (y m n : ℕ) → IsChain next y ms m → has (next m) n ≡ true → IsChain next y (ms ++ n ∷ []) n
-chain-more next [] y m n same h = (rw same h, refl)
-chain-more next (k ∷ ms) y m n c h = (c.0, chain-more next ms k m n c.1 h)
 
 reached_through : (nodes : List GraphNode) (bodies : Bodies) → IsGraphOf nodes bodies → (given : ℕ → Option Interval) (ks : List ℕ) (y k n : ℕ)
     → is_in_cone_through nat_eq (map (node_at given bodies) ks) y k n ≡ true → DependsOn nodes y n
@@ -198,7 +196,7 @@ reaches-depends nodes bodies graph y n r = chain_depends nodes bodies graph y y 
 pub in_cone : (nodes : List GraphNode) (bodies : Bodies) → IsGraphOf nodes bodies → (y : ℕ) (list : List ℕ) → IsCone nodes y list → (n : ℕ)
     → depends_on nat_eq (quantities nodes bodies) y n ≡ has list n
 in_cone nodes bodies graph y list is n =
-    same_tests (depends_on nat_eq (quantities nodes bodies) y n) (has list n) (λ h. (is.exactly n).1 (depends-reaches nodes bodies graph y n h))
+    same-when (depends_on nat_eq (quantities nodes bodies) y n) (has list n) (λ h. (is.exactly n).1 (depends-reaches nodes bodies graph y n h))
     (λ h. reaches-depends nodes bodies graph y n ((is.exactly n).0 h))
 
 pub falling-list : (nodes : List GraphNode) (y : ℕ) (list : List ℕ) → IsCone nodes y list → list ≡ filter (has list) (reverse (ids_of nodes))
@@ -212,7 +210,7 @@ cone_of-numbered nodes bodies graph y list is =
     ap (filter (λ m. depends m.key)) (nodes_of-numbered nodes bodies graph)
     ∙ filter-map (λ m. depends m.key) (node_at (span_at nat_eq (quantities nodes bodies)) bodies) back
     ∙ ap (nodes_at nodes bodies)
-    (filter_same depends (has list) back (λ n h. in_cone nodes bodies graph y list is n) ∙ sym (falling-list nodes y list is))
+    (filter-same depends (has list) back (λ n h. in_cone nodes bodies graph y list is n) ∙ sym (falling-list nodes y list is))
 
 -- each in the list is a node
 pub cone-there : (nodes : List GraphNode) (y : ℕ) (list : List ℕ) → IsCone nodes y list → (n : ℕ) → has list n ≡ true → has (ids_of nodes) n ≡ true

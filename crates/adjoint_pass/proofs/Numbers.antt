@@ -7,6 +7,7 @@ use Rattle.std.proofs.lemmas.Bool.Decides.{nat_tests}
 use Rattle.std.proofs.lemmas.List.{take-append-drop}
 use Rattle.std.proofs.lemmas.List.Folds.{list_any-append}
 use Rattle.std.proofs.lemmas.List.Sums.{sum_by-cons}
+use Rattle.dep_graph.proofs.Orders.{has-filter}
 use mathlib.Core.List.{reverse_aux}
 use Rattle.exact_law.specs.Model.{IsSameTest}
 use Rattle.dep_graph.specs.Nodes.{has}
@@ -24,12 +25,6 @@ equal m n h = grind (arith, nat_tests)
 pub turned : (m n : ℕ) → nat_eq m n ≡ nat_eq n m
 turned m n = grind (arith, nat_tests)
 
--- two tests that imply each other
-pub same_tests : (a b : Bool) → (a ≡ true → b ≡ true) → (b ≡ true → a ≡ true) → a ≡ b
-same_tests true b h k = sym (h refl)
-same_tests false true h k = k refl
-same_tests false false h k = refl
-
 -- ---- what is in a list
 pub has-next : (m n : ℕ) (ns : List ℕ) → has ns n ≡ true → has (m ∷ ns) n ≡ true
 has-next m n ns h = or_right (nat_eq n m) (has ns n) h
@@ -37,13 +32,6 @@ has-next m n ns h = or_right (nat_eq n m) (has ns n) h
 pub has-turned : (ns : List ℕ) (n : ℕ) → list_any (λ m. nat_eq m n) ns ≡ has ns n
 has-turned [] n = refl
 has-turned (m ∷ ns) n = ap₂ (λ a b. a || b) (turned m n) (has-turned ns n)
-
-pub has-filter : (p : ℕ → Bool) (ns : List ℕ) (n : ℕ) → has (filter p ns) n ≡ (has ns n && p n)
-has-filter p [] n = refl
-has-filter p (m ∷ ns) n = by (p m) refl (nat_eq n m) refl (has-filter p ns n) where
-  never : (a : Bool) → (a && false) ≡ false
-  never true = refl
-  never false = refl
 
   by : (b : Bool) → p m ≡ b → (t : Bool) → nat_eq n m ≡ t → has (filter p ns) n ≡ (has ns n && p n)
       → has (if b then m ∷ filter p ns else filter p ns) n ≡ ((nat_eq n m || has ns n) && p n)
@@ -54,31 +42,11 @@ has-filter p (m ∷ ns) n = by (p m) refl (nat_eq n m) refl (has-filter p ns n) 
       rw f (rest ∙ rw fails (never (has ns n)) ∙ sym fails)
   by false e false f rest = rw f rest
 
-has-reverse_aux : (xs ys : List ℕ) (n : ℕ) → has (reverse_aux xs ys) n ≡ (has xs n || has ys n)
-has-reverse_aux [] ys n = refl
-has-reverse_aux (x ∷ xs) ys n = has-reverse_aux xs (x ∷ ys) n ∙ turn (has xs n) (nat_eq n x) (has ys n) where
-  turn : (a b c : Bool) → (a || (b || c)) ≡ ((b || a) || c)
-  turn true true c = refl
-  turn true false c = refl
-  turn false true c = refl
-  turn false false c = refl
-
-pub has-reverse : (ns : List ℕ) (n : ℕ) → has (reverse ns) n ≡ has ns n
-has-reverse ns n = has-reverse_aux ns [] n ∙ or-none (has ns n) where
-  or-none : (a : Bool) → (a || false) ≡ a
-  or-none true = refl
-  or-none false = refl
-
 -- before a place and from there on
 pub has-parts : (i : ℕ) (ns : List ℕ) (n : ℕ) → has ns n ≡ (has (take i ns) n || has (drop i ns) n)
 has-parts i ns n = ap (λ l. has l n) (sym (take-append-drop i ns)) ∙ list_any-append (nat_eq n) (take i ns) (drop i ns)
 
 -- ---- tests and functions that are the same at each of the list
-pub filter_same : (p q : ℕ → Bool) (ns : List ℕ) → ((n : ℕ) → has ns n ≡ true → p n ≡ q n) → filter p ns ≡ filter q ns
-filter_same p q [] same = refl
-filter_same p q (n ∷ ns) same =
-    ap₂ (λ b rest. if b then n ∷ rest else rest) (same n (has-first n ns)) (filter_same p q ns (λ m h. same m (has-next n m ns h)))
-
 pub map_same_at : {B : Type 0} (f g : ℕ → B) (ns : List ℕ) → ((n : ℕ) → has ns n ≡ true → f n ≡ g n) → map f ns ≡ map g ns
 map_same_at f g [] same = refl
 map_same_at f g (n ∷ ns) same = ap₂ (λ x xs. x ∷ xs) (same n (has-first n ns)) (map_same_at f g ns (λ m h. same m (has-next n m ns h)))

@@ -9,6 +9,7 @@ use Rattle.std.proofs.lemmas.List.Folds.{list_any_more, list_all-map, list_all_a
 use Rattle.std.proofs.lemmas.List.Sums.{sum_by-drop_more}
 use Rattle.std.proofs.lemmas.List.Sorted.{sum_by-IsPermutation, IsPermutation-reverse}
 use Rattle.std.proofs.lemmas.Simd.{map-map}
+use Rattle.dep_graph.proofs.Orders.{has-filter, filter-same}
 use Rattle.fixed_interval.specs.Interval.{Interval, point_span}
 use Rattle.fixed_interval.specs.Rules.{one_bound, product_span}
 use Rattle.fixed_interval.specs.Sums.{zero_span, both, sum_of}
@@ -28,7 +29,7 @@ use Rattle.adjoint_pass.specs.Costs.{term_cost, gradient_cost}
 use Rattle.adjoint_pass.specs.Gathering.{part_in, part_at, term_at, found_among, next_sensitivity, next_cost}
 use Rattle.adjoint_pass.proofs.Lists.{filter-map}
 use Rattle.adjoint_pass.proofs.Equations.{sensitivity_of-solves}
-use Rattle.adjoint_pass.proofs.Numbers.{same_numbers, equal, has-filter, has-parts, filter_same, map_same_at, all_at, filter-filter, times, once, apart-filter}
+use Rattle.adjoint_pass.proofs.Numbers.{same_numbers, equal, has-parts, map_same_at, all_at, filter-filter, times, once, apart-filter}
 use Rattle.adjoint_pass.proofs.Rows.{uses_at, part_same}
 use Rattle.adjoint_pass.proofs.Effort.{cost_at, cone_costs}
 use Rattle.adjoint_pass.proofs.Nodes.{quantities, node_at, users-back, in_cone, falling-list, cone_of-numbered, unused_later, ids-apart}
@@ -94,7 +95,7 @@ picked nodes bodies cells y list w i n within at found h =
     let uses : ℕ → Bool = λ m. uses_at (bodies m) n in
     let back : List ℕ = reverse (ids_of nodes) in
     ap (found_among found) (users-back nodes bodies w.graph n)
-    ∙ filter_same (λ m. is_some (found m)) (has list) (filter uses back)
+    ∙ filter-same (λ m. is_some (found m)) (has list) (filter uses back)
     (λ m t. is_found (sensitivities nodes bodies y) found (take i list) h m
     ∙ later nodes bodies cells y list w i n within at m (and_parts (has back m) (uses m) (sym (has-filter uses back m) ∙ t)).1)
     ∙ filter-filter (has list) uses back

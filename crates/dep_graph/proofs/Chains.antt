@@ -1,11 +1,12 @@
 -- Chains turned round: what uses, and what is used.
 use Rattle.std.proofs.Common.{arith, ap, sym, ◌∙◌, true≢false, ◌≡◌, ◌||◌, true, false, ℕ, Bool, List, [], ◌∷◌, ◌++◌, nat_eq, refl}
 use Rattle.std.proofs.lemmas.Bool.Decides.{nat_tests}
+use Rattle.std.proofs.lemmas.Bool.{or_right}
 use Rattle.dep_graph.specs.Nodes.{Node, has, ids_of, uses_in, users_in, AreOnce, IsWhole}
 use Rattle.dep_graph.specs.Reaching.{IsChain, Reaches, DependsOn, next_in}
 use Rattle.dep_graph.specs.declared.way.Way.{Way}
 use Rattle.dep_graph.specs.declared.way.Way.TheVariants.{Uses, Users}
-use Rattle.dep_graph.proofs.Searches.{chain-more, or-right}
+use Rattle.dep_graph.proofs.Searches.{chain-more}
 
 pub reach-turned : (next back : ℕ → List ℕ) → ((y n : ℕ) → has (next y) n ≡ true → has (back n) y ≡ true) → (ms : List ℕ) (y n : ℕ) → IsChain next y ms n → Reaches back n y
 reach-turned next back turn [] y n c = record { chain = []; is = sym c }
@@ -21,7 +22,7 @@ used-user (node ∷ nodes) y n h = by (nat_eq y node.id) (has node.uses n) refl 
     by : (e u : Bool) → nat_eq y node.id ≡ e → has node.uses n ≡ u → (has (uses_in nodes y) n ≡ true → has (users_in nodes n) y ≡ true) → has (users_in (node ∷ nodes) n) y ≡ true
     by true true q r more = rw r (rw q refl)
     by true false q r more = let t : has node.uses n ≡ true = rw q at h in absurd (true≢false (sym t ∙ r))
-    by false true q r more = rw r (or-right (nat_eq y node.id) (has (users_in nodes n) y) (more (rw q at h)))
+    by false true q r more = rw r (or_right (nat_eq y node.id) (has (users_in nodes n) y) (more (rw q at h)))
     by false false q r more = rw r (more (rw q at h))
 
 pub user-node : (nodes : List Node) (y n : ℕ) → has (users_in nodes n) y ≡ true → has (ids_of nodes) y ≡ true
@@ -34,7 +35,7 @@ user-node (node ∷ nodes) y n h = by (has node.uses n) refl (user-node nodes y 
 
     by : (u : Bool) → has node.uses n ≡ u → (has (users_in nodes n) y ≡ true → has (ids_of nodes) y ≡ true) → has (ids_of (node ∷ nodes)) y ≡ true
     by true r more = keep (nat_eq y node.id) (has (users_in nodes n) y) (has (ids_of nodes) y) more (rw r at h)
-    by false r more = or-right (nat_eq y node.id) (has (ids_of nodes) y) (more (rw r at h))
+    by false r more = or_right (nat_eq y node.id) (has (ids_of nodes) y) (more (rw r at h))
 
 -- a user of n uses it, where no two nodes have one id
 pub user-uses : (nodes : List Node) → AreOnce nodes → (y n : ℕ) → has (users_in nodes n) y ≡ true → has (uses_in nodes y) n ≡ true

@@ -4,12 +4,13 @@ use Rattle.std.proofs.Math.Seq.{take-append_seam, drop-append_seam}
 use Rattle.std.proofs.lemmas.List.{take-append-drop, map-append}
 use Rattle.std.proofs.lemmas.List.Elements.{filter-append}
 use Rattle.std.proofs.lemmas.Bool.Decides.{nat_tests}
+use Rattle.std.proofs.lemmas.Bool.{or_left, or_right, or_parts}
 use Rattle.smallvec.specs.SmallVec.{SmallVec}
 use Rattle.indexmap.proofs.SetLemmas.{map-insert}
 use Rattle.dep_graph.specs.Nodes.{Node, has, ids_of, uses_in, users_in, AreOnce, IsWhole}
 use Rattle.dep_graph.specs.Views.{node_of, nodes_of, users_at, IsGraph, extended, written, given}
 use Rattle.dep_graph.specs.declared.graph.Edges.{Edges}
-use Rattle.dep_graph.proofs.Searches.{or-right, or-left, or-false, or-assoc}
+use Rattle.dep_graph.proofs.Searches.{or-false, or-assoc}
 use Rattle.dep_graph.proofs.Chains.{user-node}
 use Rattle.dep_graph.proofs.Entries.{users-placed}
 
@@ -17,10 +18,6 @@ or-swap : (a b c : Bool) → (a || (b || c)) ≡ (b || (a || c))
 or-swap true true c = refl
 or-swap true false c = refl
 or-swap false b c = refl
-
-both-false : (a b : Bool) → (a || b) ≡ false → (a ≡ false) × (b ≡ false)
-both-false true b h = absurd (true≢false h)
-both-false false b h = (refl, h)
 
 ids-more : (xs ys : List Node) (node : Node) (n : ℕ) → has (ids_of (xs ++ node ∷ ys)) n ≡ (nat_eq n node.id || has (ids_of (xs ++ ys)) n)
 ids-more [] ys node n = refl
@@ -32,7 +29,7 @@ uses-more [] ys node n off = refl
 uses-more (x ∷ xs) ys node n off = by (nat_eq n x.id) (nat_eq n node.id) refl refl (uses-more xs ys node n apart.1)
   where
     apart : (nat_eq node.id x.id ≡ false) × (has (ids_of (xs ++ ys)) node.id ≡ false)
-    apart = both-false (nat_eq node.id x.id) (has (ids_of (xs ++ ys)) node.id) off
+    apart = or_parts (nat_eq node.id x.id) (has (ids_of (xs ++ ys)) node.id) off
 
     by : (a b : Bool) → nat_eq n x.id ≡ a → nat_eq n node.id ≡ b → uses_in (xs ++ node ∷ ys) n ≡ (if nat_eq n node.id then node.uses else uses_in (xs ++ ys) n)
         → uses_in (x ∷ xs ++ node ∷ ys) n ≡ (if nat_eq n node.id then node.uses else uses_in (x ∷ xs ++ ys) n)
@@ -69,7 +66,7 @@ users-more xs ys node n = by (has node.uses n) refl
 once-more : (xs ys : List Node) (node : Node) → AreOnce (xs ++ ys) → has (ids_of (xs ++ ys)) node.id ≡ false → AreOnce (xs ++ node ∷ ys)
 once-more [] ys node once off = (off, once)
 once-more (x ∷ xs) ys node once off =
-    let apart = both-false (nat_eq node.id x.id) (has (ids_of (xs ++ ys)) node.id) off in
+    let apart = or_parts (nat_eq node.id x.id) (has (ids_of (xs ++ ys)) node.id) off in
     let other : nat_eq x.id node.id ≡ false = grind (arith, nat_tests, apart.0) in
     (ids-more xs ys node x.id ∙ (rw other once.0), once-more xs ys node once.1 apart.1)
 
@@ -95,7 +92,7 @@ module _ (nodes : List Node) (at : ℕ) (node : Node) (new : has (ids_of nodes) 
   once-insert once = once-more (take at nodes) (drop at nodes) node (rw whole_list once) off
 
   pub whole-insert : IsWhole nodes → ((n : ℕ) → has node.uses n ≡ true → has (ids_of nodes) n ≡ true) → IsWhole (insert nodes at node)
-  whole-insert whole used = record { used = λ y n h. ids-insert n ∙ or-right (nat_eq n node.id) (has (ids_of nodes) n) (by (nat_eq y node.id) y n refl h) }
+  whole-insert whole used = record { used = λ y n h. ids-insert n ∙ or_right (nat_eq n node.id) (has (ids_of nodes) n) (by (nat_eq y node.id) y n refl h) }
     where
       by : (b : Bool) (y n : ℕ) → nat_eq y node.id ≡ b → has (uses_in (insert nodes at node) y) n ≡ true → has (ids_of nodes) n ≡ true
       by true y n q h = used n (let t : has (if nat_eq y node.id then node.uses else uses_in nodes y) n ≡ true = ap (λ l. has l n) (sym (uses-insert y)) ∙ h in rw q at t)
@@ -155,7 +152,7 @@ pub last-there : (start es : List (ℕ × Edges)) (all ws : List (ℕ × SmallVe
     → has (ids_of (nodes_of es)) w.0 ≡ true
 last-there start es all ws w is =
     let same : nat_eq w.0 w.0 ≡ true = grind (arith, nat_tests) in
-    ap (λ l. has (ids_of l) w.0) is.nodes ∙ is.there w.0 (firsts ws w w.0 ∙ or-right (has (map (λ list. list.0) ws) w.0) (nat_eq w.0 w.0) same)
+    ap (λ l. has (ids_of l) w.0) is.nodes ∙ is.there w.0 (firsts ws w w.0 ∙ or_right (has (map (λ list. list.0) ws) w.0) (nat_eq w.0 w.0) same)
 
 pub writing-step : (start es new : List (ℕ × Edges)) (all ws : List (ℕ × SmallVec ℕ)) (w : ℕ × SmallVec ℕ) → IsWriting start es all (ws ++ w ∷ [])
     → nodes_of new ≡ nodes_of es → ((n : ℕ) → users_at new n ≡ (if nat_eq n w.0 then w.1.items else users_at es n)) → IsWriting start new all ws
@@ -163,7 +160,7 @@ writing-step start es new all ws w is nodes users = record {
   nodes = nodes ∙ is.nodes;
   users = λ n. given-same (map written ws) (users_at new) (λ m. if nat_eq m w.0 then w.1.items else users_at es m) users n
       ∙ sym (given-last (map written ws) (written w) (users_at es) n) ∙ ap (λ l. given l (users_at es) n) (sym (map-append written ws (w ∷ []))) ∙ is.users n;
-  there = λ n h. is.there n (firsts ws w n ∙ or-left (has (map (λ list. list.0) ws) n) (nat_eq n w.0) h);
+  there = λ n h. is.there n (firsts ws w n ∙ or_left (has (map (λ list. list.0) ws) n) (nat_eq n w.0) h);
 }
 
 -- ---- those before a place
@@ -173,7 +170,7 @@ apart (x ∷ xs) ys once m h = by (nat_eq m x.id) refl (apart xs ys once.1 m h)
   where
     later : (zs : List Node) (k : ℕ) → has (ids_of ys) k ≡ true → has (ids_of (zs ++ ys)) k ≡ true
     later [] k t = t
-    later (z ∷ zs) k t = or-right (nat_eq k z.id) (has (ids_of (zs ++ ys)) k) (later zs k t)
+    later (z ∷ zs) k t = or_right (nat_eq k z.id) (has (ids_of (zs ++ ys)) k) (later zs k t)
 
     by : (b : Bool) → nat_eq m x.id ≡ b → has (ids_of xs) m ≡ false → has (ids_of (x ∷ xs)) m ≡ false
     by true q more = let same : m ≡ x.id = grind (arith, nat_tests) in absurd (true≢false (sym (ap (λ k. has (ids_of (xs ++ ys)) k) (sym same) ∙ later xs m h) ∙ once.0))
@@ -183,13 +180,13 @@ all-pass : (p : ℕ → Bool) (ns : List ℕ) → ((m : ℕ) → has ns m ≡ tr
 all-pass p [] h = refl
 all-pass p (n ∷ ns) h =
     let first : p n ≡ true = h n (let e : nat_eq n n ≡ true = grind (arith, nat_tests) in rw e refl) in
-    rw first (ap (λ l. n ∷ l) (all-pass p ns (λ m t. h m (or-right (nat_eq m n) (has ns m) t))))
+    rw first (ap (λ l. n ∷ l) (all-pass p ns (λ m t. h m (or_right (nat_eq m n) (has ns m) t))))
 
 none-pass : (p : ℕ → Bool) (ns : List ℕ) → ((m : ℕ) → has ns m ≡ true → p m ≡ false) → filter p ns ≡ []
 none-pass p [] h = refl
 none-pass p (n ∷ ns) h =
     let first : p n ≡ false = h n (let e : nat_eq n n ≡ true = grind (arith, nat_tests) in rw e refl) in
-    rw first (none-pass p ns (λ m t. h m (or-right (nat_eq m n) (has ns m) t)))
+    rw first (none-pass p ns (λ m t. h m (or_right (nat_eq m n) (has ns m) t)))
 
 users-first : (xs ys : List Node) → AreOnce (xs ++ ys) → (n : ℕ) → filter (has (ids_of xs)) (users_in (xs ++ ys) n) ≡ users_in xs n
 users-first xs ys once n =
@@ -239,7 +236,7 @@ pub ids-placed : (es : List (ℕ × Edges)) (at id : ℕ) (edges : Edges) → ha
     → (n : ℕ) → has (ids_of (nodes_of es)) n ≡ true → has (ids_of (nodes_of (insert es at (id, edges)))) n ≡ true
 ids-placed es at id edges new n h =
     ap (λ l. has (ids_of l) n) (map-insert node_of es at (id, edges)) ∙ ids-insert (nodes_of es) at (node_of (id, edges)) new n
-    ∙ or-right (nat_eq n id) (has (ids_of (nodes_of es)) n) h
+    ∙ or_right (nat_eq n id) (has (ids_of (nodes_of es)) n) h
 
 pub is-added : (es : List (ℕ × Edges)) (at id : ℕ) (edges : Edges) (shifted after : List (ℕ × Edges)) (ws : List (ℕ × SmallVec ℕ)) (self : List Node) (uses : List ℕ)
     → nodes_of es ≡ self → edges.uses.items ≡ uses → shifted ≡ insert es at (id, edges) → map written ws ≡ map {A = ℕ} (λ n. (n, extended self at id n)) uses

@@ -1,6 +1,6 @@
 mod Entries
-mod Searches
+pub mod Searches
 mod Chains
-mod Orders
+pub mod Orders
 mod Inserting
 mod Diamond

@@ -1,11 +1,10 @@
 -- What is found, in the order of the nodes.
 use Rattle.std.proofs.Common.{ap, ◌∙◌, sym, ◌≡◌, ◌&&◌, ◌||◌, not, true, false, ℕ, Bool, List, [], ◌∷◌, filter, reverse, nat_eq, refl, arith}
-use Rattle.std.proofs.lemmas.Bool.{and_parts, not-true}
+use Rattle.std.proofs.lemmas.Bool.{and_parts, not-true, or_right}
 use Rattle.std.proofs.lemmas.Bool.Decides.{nat_tests}
 use mathlib.Core.List.{reverse_aux}
 use Rattle.dep_graph.specs.Nodes.{Node, has, ids_of, uses_in, users_in, AreOnce}
 use Rattle.dep_graph.specs.Reaching.{IsClosure, IsCone, AreDependents}
-use Rattle.dep_graph.proofs.Searches.{or-right}
 use Rattle.dep_graph.proofs.Chains.{users-depend, depend-users}
 
 and-false : (a : Bool) → false ≡ (a && false)
@@ -48,7 +47,7 @@ pub filter-same : (p q : ℕ → Bool) (xs : List ℕ) → ((n : ℕ) → has xs
 filter-same p q [] same = refl
 filter-same p q (x ∷ xs) same =
     let first : p x ≡ q x = same x (let e : nat_eq x x ≡ true = grind (arith, nat_tests) in rw e refl) in
-    let rest : filter p xs ≡ filter q xs = filter-same p q xs (λ n h. same n (or-right (nat_eq n x) (has xs n) h)) in
+    let rest : filter p xs ≡ filter q xs = filter-same p q xs (λ n h. same n (or_right (nat_eq n x) (has xs n) h)) in
     rw (first, rest) refl
 
 -- the nodes found, turned round, are the cone
@@ -81,7 +80,7 @@ dependents-of nodes once n found closure within =
     }
 
 -- ---- the definitions leave no choice
-same-when : (a b : Bool) → (a ≡ true → b ≡ true) → (b ≡ true → a ≡ true) → a ≡ b
+pub same-when : (a b : Bool) → (a ≡ true → b ≡ true) → (b ≡ true → a ≡ true) → a ≡ b
 same-when true b f g = sym (f refl)
 same-when false true f g = g refl
 same-when false false f g = refl

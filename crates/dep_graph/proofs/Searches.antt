@@ -1,6 +1,7 @@
 -- A search adds what is used until nothing new comes.
 use Rattle.std.proofs.Common.{true≢false, ap, ◌∙◌, sym, arith, append-nil, append_assoc, length-append, take_all, ◌≡◌, true, false, ℕ, suc, zero, ◌+◌, ◌<◌, ◌≤◌, ◌||◌, Bool, List, [], ◌∷◌, ◌++◌, take, length, get_or, nat_eq, refl}
 use Rattle.std.proofs.lemmas.Bool.Decides.{nat_tests}
+use Rattle.std.proofs.lemmas.Bool.{or_left, or_right}
 use Rattle.indexmap.specs.IndexSet.{insert_all, insert_key}
 use Rattle.dep_graph.specs.Nodes.{has}
 use Rattle.dep_graph.specs.Reaching.{IsChain, Reaches, IsClosure}
@@ -13,13 +14,6 @@ or-false false = refl
 pub or-assoc : (a b c : Bool) → ((a || b) || c) ≡ (a || (b || c))
 or-assoc true b c = refl
 or-assoc false b c = refl
-
-pub or-left : (a b : Bool) → a ≡ true → (a || b) ≡ true
-or-left a b h = rw h refl
-
-pub or-right : (a b : Bool) → b ≡ true → (a || b) ≡ true
-or-right true b h = refl
-or-right false b h = h
 
 -- one of the two
 pub or-cases : {P : Type 0} (a b : Bool) → (a || b) ≡ true → (a ≡ true → P) → (b ≡ true → P) → P
@@ -71,7 +65,7 @@ has-take (k ∷ ks) more (suc at) m h = ap (λ b. nat_eq m k || b) (has-take ks 
 pub has-get_or : (ks : List ℕ) (at : ℕ) → at < length ks → has ks (get_or ks at 0) ≡ true
 has-get_or [] at h = absurd (omega (arith, h))
 has-get_or (k ∷ ks) zero h = let e : nat_eq k k ≡ true = grind (arith, nat_tests) in rw e refl
-has-get_or (k ∷ ks) (suc at) h = or-right (nat_eq (get_or ks at 0) k) (has ks (get_or ks at 0)) (has-get_or ks at (omega (arith, h)))
+has-get_or (k ∷ ks) (suc at) h = or_right (nat_eq (get_or ks at 0) k) (has ks (get_or ks at 0)) (has-get_or ks at (omega (arith, h)))
 
 -- ---- chains
 pub chain-more : (next : ℕ → List ℕ) (ms : List ℕ) (y m n : ℕ) → IsChain next y ms m → has (next m) n ≡ true → IsChain next y (ms ++ n ∷ []) n
@@ -113,8 +107,8 @@ search-step next y ids at keys s low inside =
     let more = kept-insert_all keys (next here) in
     let long : length new ≡ length keys + length more.0 = ap length more.1 ∙ length-append keys more.0 in
     let split : (n : ℕ) → has new n ≡ (has keys n || has (next here) n) = has-insert_all keys (next here) in
-    let old : (n : ℕ) → has keys n ≡ true → has new n ≡ true = λ n h. split n ∙ or-left (has keys n) (has (next here) n) h in
-    let used : (n : ℕ) → has (next here) n ≡ true → has new n ≡ true = λ n h. split n ∙ or-right (has keys n) (has (next here) n) h in
+    let old : (n : ℕ) → has keys n ≡ true → has new n ≡ true = λ n h. split n ∙ or_left (has keys n) (has (next here) n) h in
+    let used : (n : ℕ) → has (next here) n ≡ true → has new n ≡ true = λ n h. split n ∙ or_right (has keys n) (has (next here) n) h in
     let at_here : Reaches next y here = s.reached here (has-get_or keys at low) in
     record {
       start = old y s.start;

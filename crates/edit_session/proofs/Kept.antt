@@ -2,7 +2,7 @@
 use Rattle.std.specs.Prelude.{◌≡◌, ℕ, Bool, true, false, ◌||◌, not, if◌then◌else◌, is_some, nat_eq, bytes_eq, List, [], ◌∷◌, ◌++◌, map, length, insert, Option, Some, None, Result, Ok, Err, OnOk, refl}
 use Rattle.std.specs.List.{AllZip, list_any}
 use Rattle.std.proofs.Common.{sym, ◌∙◌, ap, ap₂, subst, arith}
-use Rattle.std.proofs.lemmas.Bool.{true≢false}
+use Rattle.std.proofs.lemmas.Bool.{true≢false, or_left, or_right}
 use Rattle.std.proofs.lemmas.Bool.Decides.{nat_tests}
 use Rattle.std.proofs.lemmas.List.{append_assoc, append-nil, map-append, length-map}
 use Rattle.std.proofs.lemmas.List.Edits.{insert_end}
@@ -17,7 +17,7 @@ use Rattle.value_cache.specs.Rules.{Bodies, before, numbered, IsGraphOf}
 use Rattle.value_cache.specs.Slots.{body_view, IsPlaceable, bodies_of}
 use Rattle.value_cache.specs.declared.body.Body.{Body as CodeBody}
 use Rattle.value_cache.specs.declared.body.Body.TheVariants.{Point, Column as CodeColumn, Formula as CodeFormula}
-use Rattle.value_cache.proofs.Rules.{or-left, or-right, has-first}
+use Rattle.value_cache.proofs.Rules.{has-first}
 use Rattle.value_cache.proofs.Numbers.{numbers-used}
 use Rattle.value_cache.proofs.Orders.{numbered-last}
 use Rattle.value_cache.proofs.Graphs.{graph-added}
@@ -40,22 +40,22 @@ has_mapped number (m ∷ ns) n e = by (bytes_eq n m) refl e (has_mapped number n
   by : (b : Bool) → bytes_eq n m ≡ b → (b || is_in ns n) ≡ true → (is_in ns n ≡ true → has (map number ns) (number n) ≡ true)
       → (nat_eq (number n) (number m) || has (map number ns) (number n)) ≡ true
   by true f h rest =
-      or-left (nat_eq (number n) (number m)) (has (map number ns) (number n))
+      or_left (nat_eq (number n) (number m)) (has (map number ns) (number n))
       (ap (λ k. nat_eq (number n) (number k)) (sym (same_name n m f)) ∙ itself (number n))
-  by false f h rest = or-right (nat_eq (number n) (number m)) (has (map number ns) (number n)) (rest h)
+  by false f h rest = or_right (nat_eq (number n) (number m)) (has (map number ns) (number n)) (rest h)
 
 -- among the numbers of some of the names is that of a name exactly where it is one of them
 pub has_number : (all ns : List (List ℕ)) (n : List ℕ) → ((m : List ℕ) → is_in ns m ≡ true → is_in all m ≡ true) → is_in all n ≡ true
     → has (map (number_in all) ns) (number_in all n) ≡ is_in ns n
 has_number all [] n within there = refl
 has_number all (m ∷ ns) n within there =
-    ap₂ (λ a b. a || b) (numbers_apart all n m there (within m (or-left (bytes_eq m m) (is_in ns m) (named_itself m))))
-    (has_number all ns n (λ k e. within k (or-right (bytes_eq k m) (is_in ns k) e)) there)
+    ap₂ (λ a b. a || b) (numbers_apart all n m there (within m (or_left (bytes_eq m m) (is_in ns m) (named_itself m))))
+    (has_number all ns n (λ k e. within k (or_right (bytes_eq k m) (is_in ns k) e)) there)
 
 numbered-same : (bodies others : Bodies) (ns : List ℕ) → ((n : ℕ) → has ns n ≡ true → bodies n ≡ others n) → numbered bodies ns ≡ numbered others ns
 numbered-same bodies others [] same = refl
 numbered-same bodies others (n ∷ ns) same =
-    ap₂ (before n) (same n (has-first n ns)) (numbered-same bodies others ns (λ m e. same m (or-right (nat_eq m n) (has ns m) e)))
+    ap₂ (before n) (same n (has-first n ns)) (numbered-same bodies others ns (λ m e. same m (or_right (nat_eq m n) (has ns m) e)))
 
 -- ---- orders
 pub order-append : {K : Type 0} (same : K → K → Bool) (done qs more : List (Quantity K)) → AreInOrder same done qs → AreInOrder same (done ++ qs) more
@@ -124,10 +124,10 @@ module _ (all done : Quantities) (q : Quantity (List ℕ)) (kept : Numbered) (ar
   new_id =
       ap₂ has are.ids (sym new_number)
       ∙ has_number (names all) (names done) q.key
-      (λ m e. split m ∙ or-left (is_in (names done) m) (bytes_eq m q.key || is_in (names next.rest) m) e)
+      (λ m e. split m ∙ or_left (is_in (names done) m) (bytes_eq m q.key || is_in (names next.rest) m) e)
       (split q.key
-      ∙ or-right (is_in (names done) q.key) (bytes_eq q.key q.key || is_in (names next.rest) q.key)
-      (or-left (bytes_eq q.key q.key) (is_in (names next.rest) q.key) (named_itself q.key)))
+      ∙ or_right (is_in (names done) q.key) (bytes_eq q.key q.key || is_in (names next.rest) q.key)
+      (or_left (bytes_eq q.key q.key) (is_in (names next.rest) q.key) (named_itself q.key)))
       ∙ new_name
 
   pub as_many : length kept.graph ≡ id

@@ -1,9 +1,10 @@
 -- Finding cells from the end of a list, each of which uses those after it alone.
 use Rattle.std.specs.Prelude.{◌≡◌, ℕ, zero, suc, ◌+◌, ◌≤◌, ◌<◌, Bool, true, false, ◌||◌, if◌then◌else◌, nat_eq, List, [], ◌∷◌, drop, length, get_or, is_some, Option, Some, None, refl}
 use Rattle.std.proofs.Common.{arith, sym, ◌∙◌, ap, subst}
-use Rattle.std.proofs.lemmas.Bool.{true≢false}
+use Rattle.std.proofs.lemmas.Bool.{true≢false, or_parts}
 use Rattle.std.proofs.lemmas.Bool.Decides.{nat_tests}
 use Rattle.std.proofs.lemmas.List.Sums.{sum_by-cons}
+use Rattle.dep_graph.proofs.Searches.{or-cases}
 use Rattle.dep_graph.specs.Nodes.{has}
 use Rattle.value_cache.specs.Evaluations.{Found}
 use Rattle.value_cache.specs.Rules.{Bodies, uses_of, are_found, cost_of, work, AreKept, AreFalling}
@@ -21,14 +22,6 @@ falling-drop bodies [] zero falling = tt
 falling-drop bodies [] (suc i) falling = tt
 falling-drop bodies (x ∷ list) zero falling = falling
 falling-drop bodies (x ∷ list) (suc i) falling = falling-drop bodies list i falling.1
-
-or-cases : {P : Type 0} (a b : Bool) → (a || b) ≡ true → (a ≡ true → P) → (b ≡ true → P) → P
-or-cases true b h l r = l refl
-or-cases false b h l r = r h
-
-or-neither : (a b : Bool) → (a || b) ≡ false → (a ≡ false) × (b ≡ false)
-or-neither true b h = absurd (true≢false h)
-or-neither false b h = (refl, h)
 
 -- ---- the walk
 -- those from `at` on have cells, and nothing else has changed
@@ -69,7 +62,7 @@ filled-step placed new last old now after list start i steps more x f low at bod
     record {
       bodies = λ n. bodies n ∙ f.bodies n;
       kept = λ n cell h. kept n cell (f.kept n cell h);
-      others = λ n h. let both = or-neither (nat_eq n x) (has (drop (suc i) list) n) (sym (split n) ∙ h) in others n both.0 ∙ f.others n both.1;
+      others = λ n h. let both = or_parts (nat_eq n x) (has (drop (suc i) list) n) (sym (split n) ∙ h) in others n both.0 ∙ f.others n both.1;
       found = λ n h. or-cases (nat_eq n x) (has (drop (suc i) list) n) (sym (split n) ∙ h)
           (λ e. let same : x ≡ n = grind (arith, nat_tests) in ap (λ n. is_some (after n)) (sym same) ∙ found)
           (λ t. still n (now n) refl (f.found n t));

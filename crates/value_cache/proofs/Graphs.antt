@@ -1,7 +1,7 @@
 -- Graphs of bodies, as quantities are placed one by one.
 use Rattle.std.specs.Prelude.{◌≡◌, ℕ, Bool, true, false, ◌||◌, not, if◌then◌else◌, nat_eq, List, [], ◌∷◌, ◌++◌, find, is_some, Option, Some, None, refl}
 use Rattle.std.proofs.Common.{arith, sym, ◌∙◌, ap, subst}
-use Rattle.std.proofs.lemmas.Bool.{true≢false}
+use Rattle.std.proofs.lemmas.Bool.{true≢false, or_left, or_right}
 use Rattle.std.proofs.lemmas.Bool.Decides.{nat_tests}
 use Rattle.std.proofs.lemmas.List.{append_assoc, append-nil, map-append}
 use mathlib.Core.Path.{fun_ext}
@@ -9,7 +9,7 @@ use Rattle.dep_graph.specs.Nodes.{Node, has, ids_of, uses_in, AreOnce, IsWhole}
 use Rattle.value_cache.specs.Quantities.{Body, Quantity, is_there, first_unknown, used_by}
 use Rattle.value_cache.specs.Evaluable.{AreInOrder}
 use Rattle.value_cache.specs.Rules.{Bodies, uses_of, before, numbered, IsGraphOf}
-use Rattle.value_cache.proofs.Rules.{or-left, or-right, has-first}
+use Rattle.value_cache.proofs.Rules.{has-first}
 use Rattle.value_cache.proofs.Orders.{body_of-numbered, numbered-last, has-last, next}
 
 pub graph-empty : (bodies : Bodies) → ((n : ℕ) → bodies n ≡ None) → IsGraphOf [] bodies
@@ -40,7 +40,7 @@ order-last same done (first ∷ qs) q order new used =
 
 all-known : (known : ℕ → Bool) (ns : List ℕ) → ((m : ℕ) → has ns m ≡ true → known m ≡ true) → find (λ n. not (known n)) ns ≡ None
 all-known known [] h = refl
-all-known known (n ∷ ns) h = rw (h n (has-first n ns)) (all-known known ns (λ m t. h m (or-right (nat_eq m n) (has ns m) t)))
+all-known known (n ∷ ns) h = rw (h n (has-first n ns)) (all-known known ns (λ m t. h m (or_right (nat_eq m n) (has ns m) t)))
 
 none-when : {X : Type 0} (o : Option X) → is_some o ≡ false → o ≡ None
 none-when None h = refl
@@ -50,7 +50,7 @@ numbered-same : (bodies new : Bodies) (ns : List ℕ) → ((n : ℕ) → has ns 
 numbered-same bodies new [] same = refl
 numbered-same bodies new (n ∷ ns) same =
     ap (λ b. before n b (numbered new ns)) (same n (has-first n ns))
-    ∙ ap (before n (bodies n)) (numbered-same bodies new ns (λ m h. same m (or-right (nat_eq m n) (has ns m) h)))
+    ∙ ap (before n (bodies n)) (numbered-same bodies new ns (λ m h. same m (or_right (nat_eq m n) (has ns m) h)))
 
 uses-last : (nodes : List Node) (node : Node) (n : ℕ)
     → uses_in (nodes ++ node ∷ []) n ≡ (if has (ids_of nodes) n then uses_in nodes n else if nat_eq n node.id then node.uses else [])
@@ -85,7 +85,7 @@ graph-added nodes bodies new node body graph none added uses used = record { pla
   other n h false q = refl
 
   placed-by : (n : ℕ) (t : Bool) → nat_eq n node.id ≡ t → (has (ids_of nodes) n || t) ≡ is_some (if t then Some body else bodies n)
-  placed-by n true q = or-right (has (ids_of nodes) n) true refl
+  placed-by n true q = or_right (has (ids_of nodes) n) true refl
   placed-by n false q = or-false (has (ids_of nodes) n) ∙ graph.placed n where
     or-false : (a : Bool) → (a || false) ≡ a
     or-false true = refl
@@ -138,11 +138,11 @@ new-nodes : (bodies : Bodies) (done : List ℕ) (nodes : List Node) → ((n : �
 new-nodes bodies done [] there order = record { other = λ k h. refl; once = tt }
 new-nodes bodies done (node ∷ nodes) there order =
     let step = next bodies done node.id (ids_of nodes) (there node.id (has-first node.id (ids_of nodes))) order in
-    let rest = new-nodes bodies (done ++ node.id ∷ []) nodes (λ n h. there n (or-right (nat_eq n node.id) (has (ids_of nodes) n) h)) step.rest in
+    let rest = new-nodes bodies (done ++ node.id ∷ []) nodes (λ n h. there n (or_right (nat_eq n node.id) (has (ids_of nodes) n) h)) step.rest in
     let last : has (done ++ node.id ∷ []) node.id ≡ true =
-    has-last done node.id node.id ∙ or-right (has done node.id) (nat_eq node.id node.id) (grind (arith, nat_tests)) in
+    has-last done node.id node.id ∙ or_right (has done node.id) (nat_eq node.id node.id) (grind (arith, nat_tests)) in
     record {
-      other = λ k h. by k h step.new (rest.other k (has-last done node.id k ∙ or-left (has done k) (nat_eq k node.id) h)) (nat_eq k node.id) refl;
+      other = λ k h. by k h step.new (rest.other k (has-last done node.id k ∙ or_left (has done k) (nat_eq k node.id) h)) (nat_eq k node.id) refl;
       once = (rest.other node.id last, rest.once);
     } where
       by : (k : ℕ) → has done k ≡ true → has done node.id ≡ false → has (ids_of nodes) k ≡ false → (t : Bool) → nat_eq k node.id ≡ t → (t || has (ids_of nodes) k) ≡ false
@@ -158,7 +158,7 @@ used-there : (bodies : Bodies) (done ns : List ℕ) → ((n : ℕ) → has ns n 
 used-there bodies done [] there order n m h used = absurd (true≢false (sym h))
 used-there bodies done (k ∷ ns) there order n m h used =
     let step = next bodies done k ns (there k (has-first k ns)) order in
-    by step.used (used-there bodies (done ++ k ∷ []) ns (λ n h. there n (or-right (nat_eq n k) (has ns n) h)) step.rest n m) (nat_eq n k) refl where
+    by step.used (used-there bodies (done ++ k ∷ []) ns (λ n h. there n (or_right (nat_eq n k) (has ns n) h)) step.rest n m) (nat_eq n k) refl where
       turned : (a b c : Bool) → ((a || b) || c) ≡ true → (a || (b || c)) ≡ true
       turned true b c h = refl
       turned false b c h = h
@@ -168,7 +168,7 @@ used-there bodies done (k ∷ ns) there order n m h used =
           → (t : Bool) → nat_eq n k ≡ t → (has done m || has (k ∷ ns) m) ≡ true
       by first rest true q =
           let e : n ≡ k = grind (arith, nat_tests) in
-          or-left (has done m) (has (k ∷ ns) m) (first m (ap (λ n. has (uses_of (bodies n)) m) (sym e) ∙ used))
+          or_left (has done m) (has (k ∷ ns) m) (first m (ap (λ n. has (uses_of (bodies n)) m) (sym e) ∙ used))
       by first rest false q =
           turned (has done m) (nat_eq m k) (has ns m) (ap (λ b. b || has ns m) (sym (has-last done k m)) ∙ rest (rw q at h) used)
 

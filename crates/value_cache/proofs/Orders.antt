@@ -1,10 +1,12 @@
 -- Quantities in order: cones, and what is kept of them.
 use Rattle.std.specs.Prelude.{◌≡◌, ℕ, zero, suc, ◌≤◌, Bool, true, false, ◌||◌, not, if◌then◌else◌, nat_eq, List, [], ◌∷◌, ◌++◌, length, find, filter, is_some, Option, Some, None, refl}
 use Rattle.std.proofs.Common.{arith, sym, ◌∙◌, ap, subst}
-use Rattle.std.proofs.lemmas.Bool.{true≢false}
+use Rattle.std.proofs.lemmas.Bool.{true≢false, or_right, and_parts}
 use Rattle.std.proofs.lemmas.Bool.Decides.{nat_tests}
 use Rattle.std.proofs.lemmas.List.{append_assoc, append-nil}
 use Rattle.std.proofs.lemmas.Option.{none-some}
+use Rattle.dep_graph.proofs.Orders.{has-filter, has-reverse}
+use Rattle.dep_graph.proofs.Searches.{chain-more}
 use mathlib.Core.List.{reverse_aux}
 use Rattle.dep_graph.specs.Nodes.{Node, has, ids_of, uses_in}
 use Rattle.dep_graph.specs.Reaching.{IsChain, IsCone}
@@ -13,7 +15,7 @@ use Rattle.value_cache.specs.Evaluations.{Found, evaluation_of_body, evaluation_
 use Rattle.value_cache.specs.Evaluable.{AreInOrder}
 use Rattle.value_cache.specs.Rules.{Bodies, uses_of, AreRight, before, numbered, IsGraphOf, AreFalling}
 use Rattle.value_cache.specs.declared.evaluation.Evaluation.{Evaluation}
-use Rattle.value_cache.proofs.Rules.{or-right, has-first, found-each, body-same, cell-found, cell-evaluates, used-found, has-body}
+use Rattle.value_cache.proofs.Rules.{has-first, found-each, body-same, cell-found, cell-evaluates, used-found, has-body}
 
 -- ---- quantities by numbers
 pub body_of-numbered : (bodies : Bodies) (ns : List ℕ) (n : ℕ) → body_of nat_eq (numbered bodies ns) n ≡ (if has ns n then bodies n else None)
@@ -56,7 +58,7 @@ numbered-last bodies (m ∷ ns) n body e = by (bodies m) (numbered-last bodies n
 length-numbered : (bodies : Bodies) (ns : List ℕ) → ((n : ℕ) → has ns n ≡ true → is_some (bodies n) ≡ true) → length (numbered bodies ns) ≡ length ns
 length-numbered bodies [] there = refl
 length-numbered bodies (m ∷ ns) there =
-    by (bodies m) (there m (has-first m ns)) (length-numbered bodies ns (λ n h. there n (or-right (nat_eq n m) (has ns n) h))) where
+    by (bodies m) (there m (has-first m ns)) (length-numbered bodies ns (λ n h. there n (or_right (nat_eq n m) (has ns n) h))) where
       by : (b : Option (Body ℕ)) → is_some b ≡ true → length (numbered bodies ns) ≡ length ns → length (before m b (numbered bodies ns)) ≡ suc (length ns)
       by None h rest = absurd (true≢false (sym h))
       by (Some body) h rest = ap suc rest
@@ -157,7 +159,7 @@ through-all bodies cells right qs placed done (n ∷ ns) there order through =
     let here : is_some (bodies n) ≡ true = there n (has-first n ns) in
     let step = next bodies done n ns here order in
     subst (AreThrough qs cells) (append_assoc done (n ∷ []) ns)
-    (through-all bodies cells right qs placed (done ++ n ∷ []) ns (λ m h. there m (or-right (nat_eq m n) (has ns m) h)) step.rest
+    (through-all bodies cells right qs placed (done ++ n ∷ []) ns (λ m h. there m (or_right (nat_eq m n) (has ns m) h)) step.rest
     (through-last bodies cells right qs done n (placed n here) step.used through))
 
 -- a cell is the evaluation of its quantity
@@ -174,25 +176,9 @@ right-evaluation nodes bodies cells graph right n cell is =
     all.each (length qs) n cell (omega (arith, length-numbered bodies ids there)) (graph.placed n ∙ has-body bodies cells right n cell is) is
 
 -- ---- cones
-has-filter : (p : ℕ → Bool) (xs : List ℕ) (n : ℕ) → has (filter p xs) n ≡ true → has xs n ≡ true
-has-filter p [] n h = h
-has-filter p (x ∷ xs) n h = by (p x) refl (has-filter p xs n) where
-  keep : (a b c : Bool) → (b ≡ true → c ≡ true) → (a || b) ≡ true → (a || c) ≡ true
-  keep true b c more h = refl
-  keep false b c more h = more h
-
   by : (b : Bool) → p x ≡ b → (has (filter p xs) n ≡ true → has xs n ≡ true) → has (x ∷ xs) n ≡ true
   by true q more = keep (nat_eq n x) (has (filter p xs) n) (has xs n) more (rw q at h)
-  by false q more = or-right (nat_eq n x) (has xs n) (more (rw q at h))
-
-has-turned : (xs ys : List ℕ) (n : ℕ) → has (reverse_aux xs ys) n ≡ true → (has xs n || has ys n) ≡ true
-has-turned [] ys n h = h
-has-turned (x ∷ xs) ys n h = turn (has xs n) (nat_eq n x) (has ys n) (has-turned xs (x ∷ ys) n h) where
-  turn : (a b c : Bool) → (a || (b || c)) ≡ true → ((b || a) || c) ≡ true
-  turn true true c h = refl
-  turn true false c h = refl
-  turn false true c h = refl
-  turn false false c h = h
+  by false q more = or_right (nat_eq n x) (has xs n) (more (rw q at h))
 
 or-turned : (a b c : Bool) → (a || b) ≡ true → (a ≡ true → c ≡ true) → (b || c) ≡ true
 or-turned true true c h more = refl
@@ -221,12 +207,8 @@ falling-turned bodies p closed done [] after there order found falling = falling
 falling-turned bodies p closed done (n ∷ ns) after there order found falling =
     let step = next bodies done n ns (there n (has-first n ns)) order in
     falling-step bodies p closed done ns after n step found falling
-    (λ after found falling. falling-turned bodies p closed (done ++ n ∷ []) ns after (λ m h. there m (or-right (nat_eq m n) (has ns m) h)) step.rest found falling)
+    (λ after found falling. falling-turned bodies p closed (done ++ n ∷ []) ns after (λ m h. there m (or_right (nat_eq m n) (has ns m) h)) step.rest found falling)
     (p n) refl
-
-chain-more : (next : ℕ → List ℕ) (ms : List ℕ) (y m n : ℕ) → IsChain next y ms m → has (next m) n ≡ true → IsChain next y (ms ++ n ∷ []) n
-chain-more next [] y m n same h = (rw same h, refl)
-chain-more next (k ∷ ms) y m n c h = (c.0, chain-more next ms k m n c.1 h)
 
 -- a cone has bodies, and each uses those after it alone
 pub record IsWay (bodies : Bodies) (cone : List ℕ) : Type 0 where
@@ -241,7 +223,7 @@ way-of nodes bodies y cone graph is =
     let far = (is.exactly n).0 h in
     (is.exactly m).1 (record { chain = far.chain ++ m ∷ []; is = chain-more (uses_in nodes) far.chain y n m far.is (graph.uses n m ∙ used) }) in
     record {
-      placed = λ n h. there n (has-filter (has cone) ids n (or-false (has (filter (has cone) ids) n) false (has-turned (filter (has cone) ids) [] n (ap (λ l. has l n) (sym is.falling) ∙ h)) refl));
+      placed = λ n h. there n (and_parts (has ids n) (has cone n) (sym (has-filter (has cone) ids n) ∙ sym (has-reverse (filter (has cone) ids) n) ∙ ap (λ l. has l n) (sym is.falling) ∙ h)).0;
       falling = subst (AreFalling bodies) (sym is.falling)
           (falling-turned bodies (has cone) closed [] ids [] there graph.earlier (λ m h pass. h) tt);
     }

@@ -1,7 +1,7 @@
 -- Cells under the rule of one row.
 use Rattle.std.specs.Prelude.{◌≡◌, ℕ, Bool, true, false, ◌||◌, ◌&&◌, if◌then◌else◌, nat_eq, List, [], ◌∷◌, ◌++◌, map, is_some, Option, Some, None, refl}
 use Rattle.std.proofs.Common.{arith, sym, ◌∙◌, ap}
-use Rattle.std.proofs.lemmas.Bool.{true≢false, and_parts}
+use Rattle.std.proofs.lemmas.Bool.{true≢false, and_parts, or_left, or_right}
 use Rattle.std.proofs.lemmas.Bool.Decides.{nat_tests}
 use Rattle.std.proofs.lemmas.List.{map-append}
 use Rattle.std.proofs.lemmas.List.Folds.{list_any-append}
@@ -15,14 +15,6 @@ use Rattle.value_cache.proofs.Names.{AllNames}
 use Rattle.value_cache.proofs.Faults.{evaluation_same}
 
 -- ---- membership
-pub or-left : (a b : Bool) → a ≡ true → (a || b) ≡ true
-or-left true b h = refl
-or-left false b h = absurd (true≢false (sym h))
-
-pub or-right : (a b : Bool) → b ≡ true → (a || b) ≡ true
-or-right true b h = refl
-or-right false b h = h
-
 pub has-first : (m : ℕ) (ms : List ℕ) → has (m ∷ ms) m ≡ true
 has-first m ms = let e : nat_eq m m ≡ true = grind (arith, nat_tests) in rw e refl
 
@@ -34,8 +26,8 @@ AllNames-used P key (Opposite a) h = AllNames-used P key a h
 AllNames-used P key (Joined s a b) h =
     let split : (m : ℕ) → has (map key (uses a ++ uses b)) m ≡ (has (map key (uses a)) m || has (map key (uses b)) m) =
     λ m. ap (λ ms. has ms m) (map-append key (uses a) (uses b)) ∙ list_any-append (nat_eq m) (map key (uses a)) (map key (uses b)) in (
-      AllNames-used P key a (λ m t. h m (split m ∙ or-left (has (map key (uses a)) m) (has (map key (uses b)) m) t)),
-      AllNames-used P key b (λ m t. h m (split m ∙ or-right (has (map key (uses a)) m) (has (map key (uses b)) m) t)),
+      AllNames-used P key a (λ m t. h m (split m ∙ or_left (has (map key (uses a)) m) (has (map key (uses b)) m) t)),
+      AllNames-used P key b (λ m t. h m (split m ∙ or_right (has (map key (uses a)) m) (has (map key (uses b)) m) t)),
     )
 AllNames-used P key (Raised a k) h = AllNames-used P key a h
 
@@ -47,7 +39,7 @@ pub found-from : (cells : Found ℕ) (ms : List ℕ) → ((m : ℕ) → has ms m
 found-from cells [] each = refl
 found-from cells (m ∷ ms) each =
     both-true (is_some (cells m)) (are_found cells ms) (each m (has-first m ms))
-    (found-from cells ms (λ k h. each k (or-right (nat_eq k m) (has ms k) h)))
+    (found-from cells ms (λ k h. each k (or_right (nat_eq k m) (has ms k) h)))
 
 pub found-each : (cells : Found ℕ) (ms : List ℕ) → are_found cells ms ≡ true → (m : ℕ) → has ms m ≡ true → is_some (cells m) ≡ true
 found-each cells [] all m h = absurd (true≢false (sym h))
@@ -61,7 +53,7 @@ found-same : (f g : Found ℕ) (ms : List ℕ) → ((m : ℕ) → has ms m ≡ t
 found-same f g [] same = refl
 found-same f g (m ∷ ms) same =
     let first : f m ≡ g m = same m (has-first m ms) in
-    let rest : are_found f ms ≡ are_found g ms = found-same f g ms (λ k h. same k (or-right (nat_eq k m) (has ms k) h)) in
+    let rest : are_found f ms ≡ are_found g ms = found-same f g ms (λ k h. same k (or_right (nat_eq k m) (has ms k) h)) in
     rw (first, rest) refl
 
 pub body-same : (f g : Found ℕ) (n : ℕ) (body : Option (Body ℕ)) → ((m : ℕ) → has (uses_of body) m ≡ true → f m ≡ g m)
