@@ -3,3 +3,5 @@ pub mod Scales
 pub mod Printed
 pub mod Correlations
 pub mod WithinOne
+pub mod Searches
+pub mod Reports

@@ -5,6 +5,7 @@ ghost use Rattle.exact_law.specs.Rounding.{IsHundredths};
 ghost use Rattle.decimal18.specs.Bound.{value_of};
 ghost use Rattle.fixed_interval.specs.Interval.{Encloses};
 ghost use Rattle.round_out.specs.Correlations.{ArePositive, IsSaid, IsSaidOf, IsTrueOf, coefficient_square};
+ghost use Rattle.round_out.specs.Searches.{correlation_of};
 ghost use Rattle.round_out.specs.WithinOne.{IsWithinOne};
 
 use decimal18::Dec;
@@ -101,6 +102,7 @@ pub fn correlation<L: Ledger>(
 ) -> Result<CorrSaid, Overflow>
     requires first { of_ℤ (pos 0) ≤ℚ value_of vy.now.lo }
     requires second { of_ℤ (pos 0) ≤ℚ value_of vz.now.lo }
+    ensures said { result ≡ correlation_of c.now vy.now vz.now }
     ensures exact { IsSaid c.now vy.now vz.now result }
     ensures holds { IfOk result (λ said. (x v w : ℚ) → Encloses c.now x → Encloses vy.now v → Encloses vz.now w → x *ℚ x ≤ℚ v *ℚ w → IsTrueOf said x v w) }
     ensures ticks { steps.new ≤ steps.old + 4 }

@@ -1,8 +1,9 @@
-ghost use Rattle.std.specs.Prelude.{IfSome, pos};
+ghost use Rattle.std.specs.Prelude.{◌≡◌, IfSome, pos};
 ghost use Rattle.exact_fraction.specs.Number.{ℚ, of_ℤ, ◌≤ℚ◌};
 ghost use Rattle.exact_law.specs.Rounding.{AreDigitsOf};
 ghost use Rattle.decimal18.specs.Bound.{value_of};
 ghost use Rattle.fixed_interval.specs.Interval.{Encloses};
+ghost use Rattle.round_out.specs.Searches.{digits_of_span};
 ghost use Rattle.round_out.specs.Settled.{AreSettledDigits, IsPlaced, stated_digits};
 
 use crate::scale::digits_of;
@@ -28,6 +29,7 @@ pub enum Rounded {
 /// same.
 pub fn two_digits(v: &Span) -> Rounded
     requires not_negative { of_ℤ (pos 0) ≤ℚ value_of v.now.lo }
+    ensures said { result ≡ digits_of_span v.now }
     ensures exact { AreSettledDigits v.now (stated_digits result) }
     ensures holds { (x : ℚ) → Encloses v.now x → IfSome (stated_digits result) (AreDigitsOf x) }
     ensures place { IsPlaced result }

@@ -6,6 +6,7 @@ mod digits;
 mod estimate;
 mod laws;
 mod print;
+mod report;
 mod scale;
 #[cfg(test)]
 mod tests;
@@ -18,3 +19,4 @@ pub use laws::{
     worked_meanings, worked_texts,
 };
 pub use print::print_at;
+pub use report::{Reported, expanded, reported};

@@ -1,0 +1,108 @@
+ghost use Rattle.std.specs.Prelude.{◌≡◌, ◌≤◌, ◌+◌, IfOk, pos, negsuc, ◌≤ℤ◌};
+ghost use Rattle.exact_fraction.specs.Number.{ℚ, of_ℤ, ◌*ℚ◌, ◌≤ℚ◌};
+ghost use Rattle.decimal18.specs.Bound.{value_of};
+ghost use Rattle.fixed_interval.specs.Interval.{Encloses};
+ghost use Rattle.round_out.specs.Settled.{settled_estimate};
+ghost use Rattle.round_out.specs.Reports.{IsReportOf, IsReportPlaced, expanded_of, in_units, is_point, reported_of, with_digits};
+ghost use Rattle.round_out.specs.declared.digits.Rounded.TheVariants.{Zero};
+
+use crate::digits::{Rounded, two_digits};
+use crate::estimate::estimate_at;
+use decimal18::Dec;
+use fixed_interval::{Overflow, Span, Steps, is_at_most, mul, sqr};
+use std::sync::ledger::Ledger;
+
+/// What spans of an estimate and of a variance tell of the estimate with its uncertainty, the root of the variance,
+/// rounded to the place of the uncertainty's second digit (JCGM 100:2008, 7.2.6). Both are in the unit of the estimate.
+#[derive(Clone, Copy, Debug, PartialEq, Eq)]
+pub enum Reported {
+    /// The uncertainty is 0, and the estimate is this number.
+    Exact(Dec),
+    /// They are rounded to these numbers of units of a decimal place.
+    Rounded {
+        /// The estimate, in units of 10^`e`.
+        estimate: i128,
+        /// The uncertainty in the same units, from 10 to 99.
+        m: u8,
+        /// The exponent of the power of ten that is the unit, from -19 to 8.
+        e: i8,
+    },
+    /// The spans settle no digits of the uncertainty, or no estimate at their place.
+    Unsettled,
+}
+
+// Whether a span is that of one number.
+fn is_point(s: &Span) -> bool
+    ensures { result ≡ is_point s.now }
+{
+    is_at_most(s.hi(), s.lo())
+}
+
+// The estimate, where its uncertainty is 0.
+fn exactly(y: &Span) -> Reported
+    ensures { result ≡ with_digits y.now Zero }
+{
+    if is_point(y) {
+        return Reported::Exact(y.lo());
+    }
+    Reported::Unsettled
+}
+
+// The estimate at the place of the two digits of its uncertainty.
+fn at_digits(y: &Span, m: u8, e: i8) -> Reported
+    requires least { negsuc 18 ≤ℤ e }
+    requires most { e ≤ℤ pos 8 }
+    ensures { result ≡ in_units (settled_estimate y.now e) m e }
+{
+    match estimate_at(y, e) {
+        Some(estimate) => Reported::Rounded { estimate, m, e },
+        None => Reported::Unsettled,
+    }
+}
+
+/// The estimate with its standard uncertainty, the root of the variance, rounded to the place of the uncertainty's second
+/// digit (JCGM 100:2008, 7.2.6), where the spans settle both.
+pub fn reported(y: &Span, v: &Span) -> Reported
+    requires not_negative { of_ℤ (pos 0) ≤ℚ value_of v.now.lo }
+    ensures exact { result ≡ reported_of y.now v.now }
+    ensures holds { (x q : ℚ) → Encloses y.now x → Encloses v.now q → IsReportOf x q result }
+    ensures place { IsReportPlaced result }
+{
+    match two_digits(v) {
+        Rounded::Zero => exactly(y),
+        Rounded::Digits { m, e } => at_digits(y, m, e),
+        Rounded::Unsettled => Reported::Unsettled,
+    }
+}
+
+/// The estimate with its expanded uncertainty (JCGM 100:2008, 6.2.1), `k` times the root of the variance, rounded to the
+/// place of the uncertainty's second digit (7.2.6), where the spans settle both and that of `k` is a point. It ticks at
+/// most twice.
+///
+/// # Errors
+///
+/// [`Overflow`] exactly where the span of `k` is a point, and the square of `k` or its product with the variance is out of
+/// the range of bounds.
+pub fn expanded<L: Ledger>(
+    y: &Span,
+    v: &Span,
+    k: &Span,
+    steps: &mut Steps<L>,
+) -> Result<Reported, Overflow>
+    requires not_negative { of_ℤ (pos 0) ≤ℚ value_of v.now.lo }
+    ensures exact { result ≡ expanded_of y.now v.now k.now }
+    ensures holds { (x q f : ℚ) → Encloses y.now x → Encloses v.now q → Encloses k.now f → IfOk result (IsReportOf x (f *ℚ f *ℚ q)) }
+    ensures place { IfOk result IsReportPlaced }
+    ensures ticks { steps.new ≤ steps.old + 2 }
+{
+    if !is_point(k) {
+        return Ok(Reported::Unsettled);
+    }
+    let Ok(square) = sqr(k, steps) else {
+        return Err(Overflow);
+    };
+    let Ok(variance) = mul(&square, v, steps) else {
+        return Err(Overflow);
+    };
+    Ok(reported(y, &variance))
+}
