@@ -7,3 +7,7 @@ pub mod Hundredths
 pub mod Coefficients
 pub mod Said
 pub mod Literals
+pub mod Finding
+pub mod Searching
+pub mod Saying
+pub mod Reporting

@@ -12,8 +12,8 @@ use Rattle.round_out.specs.Settled.{settled_estimate}
 use Rattle.round_out.specs.Searches.{digits_of_span}
 use Rattle.round_out.specs.declared.digits.Rounded.{Rounded}
 use Rattle.round_out.specs.declared.digits.Rounded.TheVariants.{Zero, Digits, Unsettled as UnsettledDigits}
-use Rattle.round_out.specs.declared.report.Reported.{Reported}
-use Rattle.round_out.specs.declared.report.Reported.TheVariants.{Exact, Rounded as RoundedTo, Unsettled}
+use Rattle.round_out.specs.declared.outcome.Reported.{Reported}
+use Rattle.round_out.specs.declared.outcome.Reported.TheVariants.{Exact, Rounded as RoundedTo, Unsettled}
 
 -- ---- what is reported over spans
 -- the span of one number

@@ -1,6 +1,6 @@
 -- What the spans settle, as functions that compute: what is settled is looked for among the finitely many numbers that it
 -- can be. What a rounded number is stands in the exact law (JCGM 100:2008, 7.2.6 and 5.2.2).
-use Rattle.std.specs.Prelude.{ℕ, ◌+◌, ◌*◌, ◌==◌, ◌&&◌, ◌||◌, not, Bool, false, if◌then◌else◌, Option, None, Some, unwrap_or, Result, Ok, Err, List, ◌∷◌, map, filter, ℤ, pos, negsuc, neg_ℤ, ◌+ℤ◌}
+use Rattle.std.specs.Prelude.{ℕ, ◌+◌, ◌-◌, ◌*◌, ◌==◌, ◌&&◌, ◌||◌, not, Bool, false, if◌then◌else◌, Option, None, Some, unwrap_or, Result, Ok, Err, List, ◌∷◌, map, filter, ℤ, pos, negsuc, neg_ℤ, ◌+ℤ◌}
 use Rattle.std.specs.List.{find, flat_map, range_with_len}
 use Rattle.std.specs.Option.{option_map_or}
 use Rattle.exact_fraction.specs.Number.{ℚ, of_ℤ, ◌*ℚ◌, is_zero_ℚ, is_at_most_ℚ}

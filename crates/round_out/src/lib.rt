@@ -5,6 +5,7 @@ mod coefficient;
 mod digits;
 mod estimate;
 mod laws;
+mod outcome;
 mod print;
 mod report;
 mod scale;
@@ -18,5 +19,6 @@ pub use laws::{
     one_answer, texts_are_literals, worked_correlations, worked_digits, worked_estimates,
     worked_meanings, worked_texts,
 };
+pub use outcome::Reported;
 pub use print::print_at;
-pub use report::{Reported, expanded, reported};
+pub use report::{expanded, reported};
