@@ -11,3 +11,4 @@ pub mod Finding
 pub mod Searching
 pub mod Saying
 pub mod Reporting
+pub mod Lower

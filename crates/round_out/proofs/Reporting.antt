@@ -3,15 +3,19 @@ use Rattle.std.specs.Prelude.{◌≡◌, ℕ, Bool, true, false, cond, Option, N
 use Rattle.std.specs.Option.{ok_or}
 use Rattle.std.specs.Ordering.{int_eq}
 use Rattle.std.proofs.Common.{sym, ◌∙◌, ap, ap₂, subst}
+use Rattle.std.proofs.lemmas.Bool.Decides.{Decides-int_eq}
 use Rattle.exact_fraction.specs.Number.{ℚ, of_ℤ, ◌*ℚ◌, is_at_most_ℚ, ◌≤ℚ◌}
 use Rattle.exact_fraction.specs.NumberLaws.{≤ℚ_antisym, ≤ℚ_trans, ≤ℚ_refl}
 use Rattle.exact_law.specs.Rounding.{AreDigitsOf, IsTwoDigits, at_place}
 use Rattle.exact_law.proofs.RoundingLaws.{at_place-between}
 use Rattle.decimal18.specs.Bound.{Bound, value_of}
 use Rattle.fixed_interval.specs.Interval.{Interval, Encloses}
+use Rattle.fixed_interval.specs.Rules.{product_span, square_span}
+use Rattle.fixed_interval.specs.Sums.{both}
+use Rattle.fixed_interval.specs.declared.faults.Overflow.{Overflow}
 use Rattle.round_out.specs.Settled.{IsPlaced, settled_estimate, stated_digits}
 use Rattle.round_out.specs.Searches.{digits_of_span}
-use Rattle.round_out.specs.Reports.{IsReportOf, IsReportPlaced, in_units, is_point, reported_of, with_digits}
+use Rattle.round_out.specs.Reports.{IsReportOf, IsReportPlaced, expanded_of, in_units, is_point, reported_if, reported_of, with_digits}
 use Rattle.round_out.specs.declared.digits.Rounded.{Rounded}
 use Rattle.round_out.specs.declared.digits.Rounded.TheVariants.{Zero, Digits, Unsettled as UnsettledDigits}
 use Rattle.round_out.specs.declared.outcome.Reported.{Reported}
@@ -32,7 +36,7 @@ estimates_agree a b c e = by (int_eq a b) refl e where
   by : (t : Bool) → int_eq a b ≡ t → cond t (Some a) None ≡ Some c → (a ≡ c) × (b ≡ c)
   by true g f =
       let first : a ≡ c = cc in
-      let same : a ≡ b = Decides-true (Decides-int_eq a b) g in
+      let same : a ≡ b = (Decides-int_eq a b).0 g in
       (first, sym same ∙ first)
   by false g f = cc
 
@@ -62,3 +66,20 @@ pub report_placed : (y : Interval) (r : Rounded) → IsPlaced r → IsReportPlac
 report_placed y Zero h = exact_placed y.lo (is_point y)
 report_placed y (Digits m e) h = units_placed m e h (settled_estimate y e)
 report_placed y UnsettledDigits h = tt
+
+-- ---- expanded uncertainties
+pub expanded_unsettled : (y v k : Interval) → is_point k ≡ false → Ok Unsettled ≡ expanded_of y v k
+unfolding expanded_of
+expanded_unsettled y v k h = sym (ap (λ t. cond t (reported_if y (both (square_span k) (Some v) product_span)) (Ok Unsettled)) h)
+
+pub expanded_missing : (y v k : Interval) (fault : Overflow) → is_point k ≡ true → both (square_span k) (Some v) product_span ≡ None
+    → Err fault ≡ expanded_of y v k
+unfolding expanded_of
+expanded_missing y v k fault h e =
+    sym (ap₂ (λ t o. cond t (reported_if y o) (Ok Unsettled)) h e)
+
+pub expanded_there : (y v k w : Interval) (r : Reported) → is_point k ≡ true → both (square_span k) (Some v) product_span ≡ Some w → r ≡ reported_of y w
+    → Ok r ≡ expanded_of y v k
+unfolding expanded_of
+expanded_there y v k w r h e g =
+    ap Ok g ∙ sym (ap₂ (λ t o. cond t (reported_if y o) (Ok Unsettled)) h e)

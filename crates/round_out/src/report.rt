@@ -1,7 +1,10 @@
-ghost use Rattle.std.specs.Prelude.{◌≡◌, ◌≤◌, ◌+◌, IfOk, pos, negsuc, ◌≤ℤ◌};
+ghost use Rattle.std.specs.Prelude.{◌≡◌, ◌≤◌, ◌+◌, Some, IfOk, pos, negsuc, ◌≤ℤ◌};
+ghost use Rattle.std.specs.Option.{ok_or};
 ghost use Rattle.exact_fraction.specs.Number.{ℚ, of_ℤ, ◌*ℚ◌, ◌≤ℚ◌};
 ghost use Rattle.decimal18.specs.Bound.{value_of};
 ghost use Rattle.fixed_interval.specs.Interval.{Encloses};
+ghost use Rattle.fixed_interval.specs.Rules.{product_span, square_span};
+ghost use Rattle.fixed_interval.specs.Sums.{both};
 ghost use Rattle.round_out.specs.Settled.{settled_estimate};
 ghost use Rattle.round_out.specs.Reports.{IsReportOf, IsReportPlaced, expanded_of, in_units, is_point, reported_of, with_digits};
 ghost use Rattle.round_out.specs.declared.digits.Rounded.TheVariants.{Zero};
@@ -56,6 +59,26 @@ pub fn reported(y: &Span, v: &Span) -> Reported
     }
 }
 
+// The variance of `k` times a quantity that has this variance.
+fn scaled_variance<L: Ledger>(
+    v: &Span,
+    k: &Span,
+    steps: &mut Steps<L>,
+) -> Result<Span, Overflow>
+    requires not_negative { of_ℤ (pos 0) ≤ℚ value_of v.now.lo }
+    ensures span { result ≡ ok_or (both (square_span k.now) (Some v.now) product_span) (record {}) }
+    ensures encloses { (q f : ℚ) → Encloses v.now q → Encloses k.now f → IfOk result (λ s. Encloses s (f *ℚ f *ℚ q)) }
+    ensures not_negative { IfOk result (λ s. of_ℤ (pos 0) ≤ℚ value_of s.lo) }
+    ensures ticks { steps.new ≤ steps.old + 2 }
+{
+    let Ok(square) = sqr(k, steps) else {
+        return Err(Overflow);
+    };
+    // the ends of both spans are in order, as either end tells
+    let _in_order = (square.lo(), v.lo());
+    mul(&square, v, steps)
+}
+
 /// The estimate with its expanded uncertainty (JCGM 100:2008, 6.2.1), `k` times the root of the variance, rounded to the
 /// place of the uncertainty's second digit (7.2.6), where the spans settle both and that of `k` is a point. It ticks at
 /// most twice.
@@ -79,10 +102,7 @@ pub fn expanded<L: Ledger>(
     if !is_point(k) {
         return Ok(Reported::Unsettled);
     }
-    let Ok(square) = sqr(k, steps) else {
-        return Err(Overflow);
-    };
-    let Ok(variance) = mul(&square, v, steps) else {
+    let Ok(variance) = scaled_variance(v, k, steps) else {
         return Err(Overflow);
     };
     Ok(reported(y, &variance))

@@ -1,6 +1,7 @@
 use Rattle.std.proofs.Common.{rules, inl, inr}
 use Rattle.fixed_interval.proofs.Sums.{missing, there}
 use Rattle.round_out.proofs.Said.{zero_span, no_zero_span, positive, not_positive, said_is, either_zero, said_is_true}
+use Rattle.round_out.proofs.Saying.{coefficient_is_found}
 use Rattle.round_out.proofs.coefficient.correlation.Goals as goal
 use Rattle.round_out.proofs.coefficient.correlation.Goals.{then-coefficient-le0-via-then-coefficient-le0, then-coefficient-le0-via-else-coefficient-le0+then-coefficient-le0-2, then-coefficient-le0-3-via-then-coefficient-le0-3, then-coefficient-le0-3-via-else-coefficient-le0-3+then-coefficient-le0-4}
 
@@ -46,3 +47,19 @@ returns-clause-holds g c =
     said_is_true c.args.c.now c.args.vy.now c.args.vz.now c.in-Ok.square c.said.result
     (positive c.args.vy.now c.args.vz.now (search rules) (search rules))
     (there _ _ _ c.in-Ok.ensures.span) c.said.ensures
+
+pub returns-then-coefficient-le0-clause-said : goal.returns-then-coefficient-le0-clause-said
+returns-then-coefficient-le0-clause-said g c =
+    coefficient_is_found c.args.c.now c.args.vy.now c.args.vz.now _ (returns-then-coefficient-le0-clause-exact g c)
+
+pub returns-then-coefficient-le0-3-clause-said : goal.returns-then-coefficient-le0-3-clause-said
+returns-then-coefficient-le0-3-clause-said g c =
+    coefficient_is_found c.args.c.now c.args.vy.now c.args.vz.now _ (returns-then-coefficient-le0-3-clause-exact g c)
+
+pub returns-in_default-clause-said : goal.returns-in_default-clause-said
+returns-in_default-clause-said g c =
+    coefficient_is_found c.args.c.now c.args.vy.now c.args.vz.now _ (returns-in_default-clause-exact g c)
+
+pub returns-clause-said : goal.returns-clause-said
+returns-clause-said g c =
+    coefficient_is_found c.args.c.now c.args.vy.now c.args.vz.now _ (returns-clause-exact g c)
