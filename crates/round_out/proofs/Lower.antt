@@ -2,7 +2,7 @@
 use Rattle.std.specs.Prelude.{◌≡◌, Bool, true, false, cond, Option, None, Some, IfSome, IfOk, Result, Ok, Err, pos, refl}
 use Rattle.std.specs.Option.{ok_or}
 use Rattle.std.proofs.Common.{sym, subst, arith}
-use Rattle.exact_fraction.specs.Number.{ℚ, of_ℤ, ◌*ℚ◌, ◌≤ℚ◌, min_ℚ, max_ℚ}
+use Rattle.exact_fraction.specs.Number.{ℚ, of_ℤ, ◌≤ℚ◌}
 use Rattle.exact_fraction.specs.NumberLaws.{≤ℚ_refl, ≤ℚ_trans}
 use Rattle.exact_fraction.proofs.Extremes.{≤-min}
 use Rattle.exact_fraction.proofs.OrderLaws.{≤ℚ_left, *ℚ-not_negative, square-not_negative}

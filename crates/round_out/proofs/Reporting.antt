@@ -1,11 +1,10 @@
 -- What is reported of spans is so of the numbers in them.
-use Rattle.std.specs.Prelude.{◌≡◌, ℕ, Bool, true, false, cond, Option, None, Some, IfSome, IfOk, Result, Ok, Err, ℤ, pos, refl}
-use Rattle.std.specs.Option.{ok_or}
+use Rattle.std.specs.Prelude.{◌≡◌, ℕ, Bool, true, false, cond, Option, None, Some, IfSome, Ok, Err, ℤ, pos, refl}
 use Rattle.std.specs.Ordering.{int_eq}
-use Rattle.std.proofs.Common.{sym, ◌∙◌, ap, ap₂, subst}
+use Rattle.std.proofs.Common.{sym, ◌∙◌, ap, ap₂}
 use Rattle.std.proofs.lemmas.Bool.Decides.{Decides-int_eq}
-use Rattle.exact_fraction.specs.Number.{ℚ, of_ℤ, ◌*ℚ◌, is_at_most_ℚ, ◌≤ℚ◌}
-use Rattle.exact_fraction.specs.NumberLaws.{≤ℚ_antisym, ≤ℚ_trans, ≤ℚ_refl}
+use Rattle.exact_fraction.specs.Number.{ℚ, of_ℤ}
+use Rattle.exact_fraction.specs.NumberLaws.{≤ℚ_antisym, ≤ℚ_trans}
 use Rattle.exact_law.specs.Rounding.{AreDigitsOf, IsTwoDigits, at_place}
 use Rattle.exact_law.proofs.RoundingLaws.{at_place-between}
 use Rattle.decimal18.specs.Bound.{Bound, value_of}
@@ -19,7 +18,7 @@ use Rattle.round_out.specs.Reports.{IsReportOf, IsReportPlaced, expanded_of, in_
 use Rattle.round_out.specs.declared.digits.Rounded.{Rounded}
 use Rattle.round_out.specs.declared.digits.Rounded.TheVariants.{Zero, Digits, Unsettled as UnsettledDigits}
 use Rattle.round_out.specs.declared.outcome.Reported.{Reported}
-use Rattle.round_out.specs.declared.outcome.Reported.TheVariants.{Exact, Rounded as RoundedTo, Unsettled}
+use Rattle.round_out.specs.declared.outcome.Reported.TheVariants.{Exact, Unsettled}
 
 pub reported_is : (y v : Interval) (r : Rounded) (s : Reported) → r ≡ digits_of_span v → s ≡ with_digits y r → s ≡ reported_of y v
 unfolding reported_of

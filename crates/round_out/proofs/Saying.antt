@@ -1,23 +1,22 @@
 -- What is said of a correlation coefficient by looking for its hundredths.
-use Rattle.std.specs.Prelude.{◌≡◌, ℕ, ◌+◌, ◌*◌, ◌-◌, ◌≤◌, ◌<◌, ◌==◌, ◌||◌, ◌&&◌, ◌⊎◌, Bool, true, false, not, cond, Option, None, Some, Result, Ok, Err, option_map, ℤ, pos, neg_ℤ, ◌≤ℤ◌, unsigned_abs, refl}
+use Rattle.std.specs.Prelude.{◌≡◌, ℕ, ◌+◌, ◌*◌, ◌-◌, ◌≤◌, ◌<◌, ◌==◌, ◌||◌, ◌&&◌, ◌⊎◌, Bool, true, false, not, cond, Option, None, Some, Result, Ok, option_map, pos, neg_ℤ, ◌≤ℤ◌, unsigned_abs, refl}
 use Rattle.std.specs.List.{find, range_with_len}
 use Rattle.std.specs.Option.{option_map_or}
-use Rattle.std.proofs.Common.{sym, ◌∙◌, ap, subst, arith, inl, inr, mul-le-mul}
+use Rattle.std.proofs.Common.{sym, ap, arith, inl, inr, mul-le-mul}
 use Rattle.std.proofs.lemmas.Bool.{and_cases, and_from, and_parts, both_ways, cases_lt, eqb-false, eqb-true, not-false, not-true, or_cases, or_parts}
 use Rattle.std.proofs.lemmas.Int.{ints}
-use Rattle.exact_fraction.specs.Number.{ℚ, of_ℤ, ◌*ℚ◌, is_zero_ℚ, is_at_most_ℚ, ◌≤ℚ◌, ◌<ℚ◌}
+use Rattle.exact_fraction.specs.Number.{ℚ, of_ℤ, is_at_most_ℚ, ◌≤ℚ◌, ◌<ℚ◌}
 use Rattle.exact_fraction.specs.NumberLaws.{≤ℚ_trans, ≤ℤ-of_≤ℚ}
 use Rattle.exact_fraction.proofs.OrderLaws.{≤ℚ_right}
 use Rattle.exact_fraction.proofs.Quotients.{is_zero_ℚ-≡, ≡-is_zero_ℚ}
 use Rattle.exact_fraction.proofs.Signs.{of_pos-*, times-≤ℚ}
-use Rattle.exact_fraction.proofs.Strict.{below_not}
 use Rattle.exact_law.specs.Rounding.{IsHundredths}
 use Rattle.decimal18.specs.Bound.{value_of}
-use Rattle.fixed_interval.specs.Interval.{Interval, Encloses}
+use Rattle.fixed_interval.specs.Interval.{Interval}
 use Rattle.fixed_interval.specs.Rules.{zero_bound, one_bound, quotient_span, product_span, cut_span}
 use Rattle.fixed_interval.specs.Sums.{both}
 use Rattle.fixed_interval.specs.declared.faults.Overflow.{Overflow}
-use Rattle.round_out.specs.Correlations.{IsZeroSpan, ArePositive, coefficient_square, IsSettled, IsSaidOf, IsSaid}
+use Rattle.round_out.specs.Correlations.{IsZeroSpan, ArePositive, coefficient_square, IsSaidOf, IsSaid}
 use Rattle.round_out.specs.Searches.{correlation_of, has_hundredths, have_hundredths, is_positive_span, is_zero_span, said_of, with_sign}
 use Rattle.round_out.specs.WithinOne.{IsWithinOne}
 use Rattle.round_out.specs.declared.coefficient.CorrSaid.{CorrSaid}

@@ -1,15 +1,15 @@
 -- The digits that are looked for are those of both ends.
-use Rattle.std.specs.Prelude.{◌≡◌, ℕ, ◌+◌, ◌*◌, ◌≤◌, ◌<◌, ◌⊎◌, Bool, true, not, Option, None, Some, unwrap_or, List, ◌∷◌, map, filter, ℤ, pos, negsuc, ◌+ℤ◌, ◌≤ℤ◌, refl}
+use Rattle.std.specs.Prelude.{◌≡◌, ℕ, ◌+◌, ◌*◌, ◌≤◌, ◌<◌, true, not, Option, None, Some, unwrap_or, map, filter, ℤ, pos, negsuc, ◌+ℤ◌, ◌≤ℤ◌, refl}
 use Rattle.std.specs.List.{AllByRecursion, find, flat_map, range_with_len}
 use Rattle.std.proofs.Common.{sym, ◌∙◌, ap, subst, arith, inl, inr}
 use Rattle.std.proofs.lemmas.Bool.{and_from, and_parts, not-true}
 use Rattle.std.proofs.lemmas.Bool.Decides.{nat_tests}
 use Rattle.std.proofs.lemmas.Int.{ints}
-use Rattle.exact_fraction.specs.Number.{ℚ, ◌≤ℚ◌, ◌<ℚ◌}
+use Rattle.exact_fraction.specs.Number.{ℚ}
 use Rattle.exact_fraction.specs.NumberLaws.{≤ℚ_trans}
 use Rattle.exact_fraction.proofs.Quotients.{is_zero_ℚ-≡, ≡-is_zero_ℚ}
 use Rattle.exact_fraction.proofs.Strict.{<ℚ-≤ℚ}
-use Rattle.exact_law.specs.Rounding.{AreDigitsOf, IsTwoDigits, least_root, scaled_square}
+use Rattle.exact_law.specs.Rounding.{AreDigitsOf, IsTwoDigits, least_root}
 use Rattle.exact_law.proofs.RoundingLaws.{scaled_square-rises}
 use Rattle.decimal18.specs.Bound.{value_of}
 use Rattle.fixed_interval.specs.Interval.{Interval}
@@ -47,10 +47,12 @@ IsCandidate (Digits m e) = (10 ≤ m) × (m < 100)
 IsCandidate Unsettled = ⊥
 
 are_candidates : (v : ℚ) → AllByRecursion IsCandidate (candidates v)
-are_candidates v =
-    (tt, all_flat_map IsCandidate (λ e. map (λ m. Digits m e) (range_with_len 10 90)) (filter (has_root v 199 1990) places)
-    (λ e. all_map IsCandidate (λ m. Digits m e) (range_with_len 10 90)
-    (all_range (λ m. (10 ≤ m) × (m < 100)) 10 90 100 (omega arith) (λ m h k. (h, k)))))
+are_candidates v = (
+  tt,
+  all_flat_map IsCandidate (λ e. map (λ m. Digits m e) (range_with_len 10 90)) (filter (has_root v 199 1990) places)
+      (λ e. all_map IsCandidate (λ m. Digits m e) (range_with_len 10 90)
+      (all_range (λ m. (10 ≤ m) × (m < 100)) 10 90 100 (omega arith) (λ m h k. (h, k)))),
+)
 
 place_number : (e : ℤ) → negsuc 18 ≤ℤ e → e ≤ℤ pos 8 → (n : ℕ) × ((n < 28) × ((pos n +ℤ negsuc 18) ≡ e))
 place_number e least most = by (e +ℤ pos 19) refl where

@@ -11,6 +11,7 @@ mod report;
 mod scale;
 #[cfg(test)]
 mod tests;
+mod worked;
 
 pub use coefficient::{CorrSaid, correlation};
 pub use digits::{Rounded, two_digits};
@@ -22,3 +23,7 @@ pub use laws::{
 pub use outcome::Reported;
 pub use print::print_at;
 pub use report::{expanded, reported};
+pub use worked::{
+    worked_coefficients, worked_digits_of_spans, worked_expansions, worked_report_meanings,
+    worked_reports, worked_signs, worked_small_estimates,
+};

@@ -60,11 +60,7 @@ pub fn reported(y: &Span, v: &Span) -> Reported
 }
 
 // The variance of `k` times a quantity that has this variance.
-fn scaled_variance<L: Ledger>(
-    v: &Span,
-    k: &Span,
-    steps: &mut Steps<L>,
-) -> Result<Span, Overflow>
+fn scaled_variance<L: Ledger>(v: &Span, k: &Span, steps: &mut Steps<L>) -> Result<Span, Overflow>
     requires not_negative { of_ℤ (pos 0) ≤ℚ value_of v.now.lo }
     ensures span { result ≡ ok_or (both (square_span k.now) (Some v.now) product_span) (record {}) }
     ensures encloses { (q f : ℚ) → Encloses v.now q → Encloses k.now f → IfOk result (λ s. Encloses s (f *ℚ f *ℚ q)) }
