@@ -1,67 +1,15 @@
 use Rattle.std.specs.Prelude.{refl}
-use std.Quotient.{/_rec, /_rec₂}
+use std.Quotient.{/_rec₂, /_rec}
 use Rattle.exact_fraction.specs.Fraction as fraction
-use Rattle.exact_fraction.specs.Fraction.{◌⊕◌, ◌⊗◌, inverse, is_at_most, floor}
-use Rattle.exact_fraction.specs.Number.{◌+ℚ◌, ◌*ℚ◌, inv_ℚ, neg_ℚ, is_zero_ℚ, is_at_most_ℚ, floor_ℚ, min_ℚ, max_ℚ}
-use Rattle.exact_fraction.specs.Powers.{power}
+use Rattle.exact_fraction.specs.Fraction.{floor, is_at_most, ◌⊗◌, inverse}
+use Rattle.exact_fraction.specs.Number.{min_ℚ, max_ℚ, ◌*ℚ◌, inv_ℚ, neg_ℚ, is_zero_ℚ, is_at_most_ℚ, floor_ℚ}
 use Rattle.decimal18.specs.Bound.{value_of}
-use Rattle.decimal18.specs.Down.{is_in_range, cut_off, down, up}
+use Rattle.decimal18.specs.Down.{up, down, cut_off, is_in_range}
 use Rattle.fixed_interval.specs.Interval.{outward}
 use Rattle.fixed_interval.specs.Extremes.{lesser, greater}
-use Rattle.fixed_interval.specs.Rules.{holds_zero}
-use Rattle.exact_law.specs.Rounding.{ten_to, at_place, scaled_square}
-use Rattle.round_out.specs.Searches.{correlation_of, digits_of_span}
-use Rattle.round_out.specs.Reports.{expanded_of, reported_of}
+use Rattle.round_out.specs.Searches.{correlation_of}
 use Rattle.round_out.proofs.worked.worked_coefficients.Goals as goal
 
-pub returns-clause-plus_one : goal.returns-clause-plus_one
-unfolding digits_of_span correlation_of outward min_ℚ max_ℚ value_of up down cut_off is_in_range ◌+ℚ◌ ◌*ℚ◌ inv_ℚ neg_ℚ is_zero_ℚ is_at_most_ℚ floor_ℚ floor is_at_most ◌⊕◌ ◌⊗◌ inverse fraction.negated lesser greater holds_zero /_rec₂ /_rec power ten_to scaled_square at_place reported_of expanded_of
-returns-clause-plus_one c = refl
-
-pub returns-clause-minus_one : goal.returns-clause-minus_one
-unfolding digits_of_span correlation_of outward min_ℚ max_ℚ value_of up down cut_off is_in_range ◌+ℚ◌ ◌*ℚ◌ inv_ℚ neg_ℚ is_zero_ℚ is_at_most_ℚ floor_ℚ floor is_at_most ◌⊕◌ ◌⊗◌ inverse fraction.negated lesser greater holds_zero /_rec₂ /_rec power ten_to scaled_square at_place reported_of expanded_of
-returns-clause-minus_one c = refl
-
-pub returns-clause-half : goal.returns-clause-half
-unfolding digits_of_span correlation_of outward min_ℚ max_ℚ value_of up down cut_off is_in_range ◌+ℚ◌ ◌*ℚ◌ inv_ℚ neg_ℚ is_zero_ℚ is_at_most_ℚ floor_ℚ floor is_at_most ◌⊕◌ ◌⊗◌ inverse fraction.negated lesser greater holds_zero /_rec₂ /_rec power ten_to scaled_square at_place reported_of expanded_of
-returns-clause-half c = refl
-
-pub returns-clause-tie : goal.returns-clause-tie
-unfolding digits_of_span correlation_of outward min_ℚ max_ℚ value_of up down cut_off is_in_range ◌+ℚ◌ ◌*ℚ◌ inv_ℚ neg_ℚ is_zero_ℚ is_at_most_ℚ floor_ℚ floor is_at_most ◌⊕◌ ◌⊗◌ inverse fraction.negated lesser greater holds_zero /_rec₂ /_rec power ten_to scaled_square at_place reported_of expanded_of
-returns-clause-tie c = refl
-
-pub returns-clause-small : goal.returns-clause-small
-unfolding digits_of_span correlation_of outward min_ℚ max_ℚ value_of up down cut_off is_in_range ◌+ℚ◌ ◌*ℚ◌ inv_ℚ neg_ℚ is_zero_ℚ is_at_most_ℚ floor_ℚ floor is_at_most ◌⊕◌ ◌⊗◌ inverse fraction.negated lesser greater holds_zero /_rec₂ /_rec power ten_to scaled_square at_place reported_of expanded_of
-returns-clause-small c = refl
-
-pub returns-clause-at_most_one : goal.returns-clause-at_most_one
-unfolding digits_of_span correlation_of outward min_ℚ max_ℚ value_of up down cut_off is_in_range ◌+ℚ◌ ◌*ℚ◌ inv_ℚ neg_ℚ is_zero_ℚ is_at_most_ℚ floor_ℚ floor is_at_most ◌⊕◌ ◌⊗◌ inverse fraction.negated lesser greater holds_zero /_rec₂ /_rec power ten_to scaled_square at_place reported_of expanded_of
-returns-clause-at_most_one c = refl
-
-pub returns-clause-no_sign : goal.returns-clause-no_sign
-unfolding digits_of_span correlation_of outward min_ℚ max_ℚ value_of up down cut_off is_in_range ◌+ℚ◌ ◌*ℚ◌ inv_ℚ neg_ℚ is_zero_ℚ is_at_most_ℚ floor_ℚ floor is_at_most ◌⊕◌ ◌⊗◌ inverse fraction.negated lesser greater holds_zero /_rec₂ /_rec power ten_to scaled_square at_place reported_of expanded_of
-returns-clause-no_sign c = refl
-
-pub returns-clause-apart : goal.returns-clause-apart
-unfolding digits_of_span correlation_of outward min_ℚ max_ℚ value_of up down cut_off is_in_range ◌+ℚ◌ ◌*ℚ◌ inv_ℚ neg_ℚ is_zero_ℚ is_at_most_ℚ floor_ℚ floor is_at_most ◌⊕◌ ◌⊗◌ inverse fraction.negated lesser greater holds_zero /_rec₂ /_rec power ten_to scaled_square at_place reported_of expanded_of
-returns-clause-apart c = refl
-
-pub returns-clause-first_from_zero : goal.returns-clause-first_from_zero
-unfolding digits_of_span correlation_of outward min_ℚ max_ℚ value_of up down cut_off is_in_range ◌+ℚ◌ ◌*ℚ◌ inv_ℚ neg_ℚ is_zero_ℚ is_at_most_ℚ floor_ℚ floor is_at_most ◌⊕◌ ◌⊗◌ inverse fraction.negated lesser greater holds_zero /_rec₂ /_rec power ten_to scaled_square at_place reported_of expanded_of
-returns-clause-first_from_zero c = refl
-
-pub returns-clause-second_from_zero : goal.returns-clause-second_from_zero
-unfolding digits_of_span correlation_of outward min_ℚ max_ℚ value_of up down cut_off is_in_range ◌+ℚ◌ ◌*ℚ◌ inv_ℚ neg_ℚ is_zero_ℚ is_at_most_ℚ floor_ℚ floor is_at_most ◌⊕◌ ◌⊗◌ inverse fraction.negated lesser greater holds_zero /_rec₂ /_rec power ten_to scaled_square at_place reported_of expanded_of
-returns-clause-second_from_zero c = refl
-
-pub returns-clause-first_zero : goal.returns-clause-first_zero
-unfolding digits_of_span correlation_of outward min_ℚ max_ℚ value_of up down cut_off is_in_range ◌+ℚ◌ ◌*ℚ◌ inv_ℚ neg_ℚ is_zero_ℚ is_at_most_ℚ floor_ℚ floor is_at_most ◌⊕◌ ◌⊗◌ inverse fraction.negated lesser greater holds_zero /_rec₂ /_rec power ten_to scaled_square at_place reported_of expanded_of
-returns-clause-first_zero c = refl
-
-pub returns-clause-second_zero : goal.returns-clause-second_zero
-unfolding digits_of_span correlation_of outward min_ℚ max_ℚ value_of up down cut_off is_in_range ◌+ℚ◌ ◌*ℚ◌ inv_ℚ neg_ℚ is_zero_ℚ is_at_most_ℚ floor_ℚ floor is_at_most ◌⊕◌ ◌⊗◌ inverse fraction.negated lesser greater holds_zero /_rec₂ /_rec power ten_to scaled_square at_place reported_of expanded_of
-returns-clause-second_zero c = refl
-
-pub returns-clause-overflow : goal.returns-clause-overflow
-unfolding digits_of_span correlation_of outward min_ℚ max_ℚ value_of up down cut_off is_in_range ◌+ℚ◌ ◌*ℚ◌ inv_ℚ neg_ℚ is_zero_ℚ is_at_most_ℚ floor_ℚ floor is_at_most ◌⊕◌ ◌⊗◌ inverse fraction.negated lesser greater holds_zero /_rec₂ /_rec power ten_to scaled_square at_place reported_of expanded_of
-returns-clause-overflow c = refl
+pub returns : goal.returns
+unfolding correlation_of outward min_ℚ max_ℚ value_of up down cut_off is_in_range ◌*ℚ◌ inv_ℚ neg_ℚ is_zero_ℚ is_at_most_ℚ floor_ℚ floor is_at_most ◌⊗◌ inverse fraction.negated lesser greater /_rec₂ /_rec
+returns c = record { plus_one = refl; minus_one = refl; half = refl; tie = refl; small = refl; at_most_one = refl; no_sign = refl; apart = refl; first_from_zero = refl; second_from_zero = refl; first_zero = refl; second_zero = refl; overflow = refl }

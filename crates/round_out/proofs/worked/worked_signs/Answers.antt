@@ -1,31 +1,10 @@
 use Rattle.std.specs.Prelude.{refl}
-use std.Quotient.{/_rec, /_rec₂}
-use Rattle.exact_fraction.specs.Fraction as fraction
-use Rattle.exact_fraction.specs.Fraction.{◌⊕◌, ◌⊗◌, inverse, is_at_most, floor}
-use Rattle.exact_fraction.specs.Number.{◌+ℚ◌, ◌*ℚ◌, inv_ℚ, neg_ℚ, is_zero_ℚ, is_at_most_ℚ, floor_ℚ, min_ℚ, max_ℚ}
-use Rattle.exact_fraction.specs.Powers.{power}
+use std.Quotient.{/_rec₂, /_rec}
+use Rattle.exact_fraction.specs.Fraction.{is_at_most}
+use Rattle.exact_fraction.specs.Number.{is_at_most_ℚ}
 use Rattle.decimal18.specs.Bound.{value_of}
-use Rattle.decimal18.specs.Down.{is_in_range, cut_off, down, up}
-use Rattle.fixed_interval.specs.Interval.{outward}
-use Rattle.fixed_interval.specs.Extremes.{lesser, greater}
-use Rattle.fixed_interval.specs.Rules.{holds_zero}
-use Rattle.exact_law.specs.Rounding.{ten_to, at_place, scaled_square}
-use Rattle.round_out.specs.Searches.{correlation_of, digits_of_span}
-use Rattle.round_out.specs.Reports.{expanded_of, reported_of}
 use Rattle.round_out.proofs.worked.worked_signs.Goals as goal
 
-pub returns-clause-plus : goal.returns-clause-plus
-unfolding digits_of_span correlation_of outward min_ℚ max_ℚ value_of up down cut_off is_in_range ◌+ℚ◌ ◌*ℚ◌ inv_ℚ neg_ℚ is_zero_ℚ is_at_most_ℚ floor_ℚ floor is_at_most ◌⊕◌ ◌⊗◌ inverse fraction.negated lesser greater holds_zero /_rec₂ /_rec power ten_to scaled_square at_place reported_of expanded_of
-returns-clause-plus c = refl
-
-pub returns-clause-minus : goal.returns-clause-minus
-unfolding digits_of_span correlation_of outward min_ℚ max_ℚ value_of up down cut_off is_in_range ◌+ℚ◌ ◌*ℚ◌ inv_ℚ neg_ℚ is_zero_ℚ is_at_most_ℚ floor_ℚ floor is_at_most ◌⊕◌ ◌⊗◌ inverse fraction.negated lesser greater holds_zero /_rec₂ /_rec power ten_to scaled_square at_place reported_of expanded_of
-returns-clause-minus c = refl
-
-pub returns-clause-unsettled : goal.returns-clause-unsettled
-unfolding digits_of_span correlation_of outward min_ℚ max_ℚ value_of up down cut_off is_in_range ◌+ℚ◌ ◌*ℚ◌ inv_ℚ neg_ℚ is_zero_ℚ is_at_most_ℚ floor_ℚ floor is_at_most ◌⊕◌ ◌⊗◌ inverse fraction.negated lesser greater holds_zero /_rec₂ /_rec power ten_to scaled_square at_place reported_of expanded_of
-returns-clause-unsettled c = refl
-
-pub returns-clause-no_hundredths : goal.returns-clause-no_hundredths
-unfolding digits_of_span correlation_of outward min_ℚ max_ℚ value_of up down cut_off is_in_range ◌+ℚ◌ ◌*ℚ◌ inv_ℚ neg_ℚ is_zero_ℚ is_at_most_ℚ floor_ℚ floor is_at_most ◌⊕◌ ◌⊗◌ inverse fraction.negated lesser greater holds_zero /_rec₂ /_rec power ten_to scaled_square at_place reported_of expanded_of
-returns-clause-no_hundredths c = refl
+pub returns : goal.returns
+unfolding value_of is_at_most_ℚ is_at_most /_rec₂ /_rec
+returns c = record { plus = refl; minus = refl; unsettled = refl; no_hundredths = refl }
