@@ -25,8 +25,11 @@ unfolding reported_of
 reported_is y v r s h k = k ∙ ap (with_digits y) h
 
 -- ---- an estimate that is one number
+pub point_is : (s : Interval) (x : ℚ) → is_point s ≡ true → Encloses s x → x ≡ value_of s.lo
+point_is s x e h = ≤ℚ_antisym _ _ (≤ℚ_trans _ _ _ h.high (record { holds = e })) h.low
+
 exact_holds : (y : Interval) (x q : ℚ) → Encloses y x → q ≡ of_ℤ (pos 0) → (t : Bool) → is_point y ≡ t → IsReportOf x q (cond t (Exact y.lo) Unsettled)
-exact_holds y x q h k true e = record { variance = k; estimate = ≤ℚ_antisym _ _ (≤ℚ_trans _ _ _ h.high (record { holds = e })) h.low }
+exact_holds y x q h k true e = record { variance = k; estimate = point_is y x e h }
 exact_holds y x q h k false e = tt
 
 -- ---- an estimate in units
