@@ -1,5 +1,7 @@
 pub mod Gradients
 pub mod Groups
+pub mod Renaming
 pub mod Variances
+pub mod Models
 pub mod Partial
 pub mod Worked

@@ -5,11 +5,13 @@
 mod covariances;
 mod gradient;
 mod group;
+mod group_list;
 mod laws;
 mod variances;
 
 pub use covariances::covariance;
 pub use gradient::Gradient;
 pub use group::{Group, member_variance};
+pub use group_list::GroupList;
 pub use laws::{spans_enclose_the_law, worked_covariances, worked_variances};
 pub use variances::{group_variance, variance};
