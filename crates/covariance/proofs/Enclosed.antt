@@ -115,7 +115,7 @@ none_placed y f h i (k ∷ ks) e = by (is_some (y k)) refl e (none_placed y f h 
   by true n e rest = absurd (cc)
   by false n e rest = ap₂ ◌+ℚ◌ (h (i, k) n) (rest e) ∙ ring [] (Whole (pos 0) :+ Whole (pos 0)) (Whole (pos 0)) refl
 
-no_part : {K : Type 0} (g : Group K) → IsRegular g → (y : Spans K) (u w : K → ℚ) → AllEnclose y u → meets y g ≡ false
+pub no_part : {K : Type 0} (g : Group K) → IsRegular g → (y : Spans K) (u w : K → ℚ) → AllEnclose y u → meets y g ≡ false
     → part (exact_group g) u w ≡ of_ℤ (pos 0)
 no_part {K} g r y u w h e =
     let ps : List (ℕ × K) = placed 0 (members g) in

@@ -1,4 +1,7 @@
+pub mod Enclosed
+pub mod Exact
+pub mod Models
+pub mod NotNegative
+pub mod Renamed
 pub mod Sums
 pub mod Triangles
-pub mod Exact
-pub mod Enclosed

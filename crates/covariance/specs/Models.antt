@@ -14,6 +14,10 @@ abbrev pub EnclosesSlopes : {K : Type 0} → (K → K → Bool) → List (Row K)
 EnclosesSlopes same model k y =
     (i : _) (q : ℚ) → body_of same model i ≡ Some (Input q) → Encloses (sensitivity y i) (exact_slope same model k i)
 
+-- i is an input of the model
+abbrev pub IsInput : {K : Type 0} → (K → K → Bool) → List (Row K) → K → Type 0
+IsInput same model i = (q : ℚ) × (body_of same model i ≡ Some (Input q))
+
 -- no two of the keys are the same
 abbrev pub are_apart : {K : Type 0} → (K → K → Bool) → List K → Bool
 are_apart same [] = true

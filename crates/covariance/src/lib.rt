@@ -7,6 +7,7 @@ mod gradient;
 mod group;
 mod group_list;
 mod laws;
+mod model_laws;
 mod variances;
 
 pub use covariances::covariance;
@@ -14,4 +15,8 @@ pub use gradient::Gradient;
 pub use group::{Group, member_variance};
 pub use group_list::GroupList;
 pub use laws::{spans_enclose_the_law, worked_covariances, worked_variances};
+pub use model_laws::{
+    covariances_are_enclosed, groups_have_the_inputs, parts_are_enclosed, renaming_changes_no_span,
+    variances_are_enclosed,
+};
 pub use variances::{group_variance, variance};
