@@ -1,3 +1,4 @@
+pub mod Counting
 pub mod Enclosed
 pub mod Exact
 pub mod Models

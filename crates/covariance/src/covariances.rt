@@ -1,4 +1,4 @@
-ghost use Rattle.std.specs.Prelude.{◌≡◌, ◌<◌, ℕ, [], ◌∷◌, length, map, IfOk};
+ghost use Rattle.std.specs.Prelude.{◌≡◌, ◌<◌, ◌≤◌, ◌+◌, ◌*◌, ◌||◌, ℕ, [], ◌∷◌, length, map, IfOk};
 ghost use Rattle.std.specs.Option.{ok_or};
 ghost use Rattle.exact_fraction.specs.Number.{ℚ};
 ghost use Rattle.exact_fraction.specs.Sums.{total};
@@ -7,7 +7,8 @@ ghost use Rattle.fixed_interval.specs.Interval.{Encloses};
 ghost use Rattle.fixed_interval.specs.Sums.{Continues};
 ghost use Rattle.covariance.specs.Gradients.{AllEnclose, found_at};
 ghost use Rattle.covariance.specs.Groups.{AreRegular, IsRegular, members, exact_group, group_of};
-ghost use Rattle.covariance.specs.Variances.{group_covariance_span, combined_covariance_span};
+ghost use Rattle.covariance.specs.Variances.{group_covariance_span, combined_covariance_span, meets};
+ghost use Rattle.covariance.specs.Costs.{pairs, pairs_of};
 ghost use Rattle.covariance.specs.Partial.{placed_at, joint_at, cross_row_at, cross_part_of};
 
 use crate::gradient::Gradient;
@@ -29,7 +30,8 @@ fn with_joint<L: Ledger>(
     requires regular { IsRegular (group_of group.now) }
     requires first { i < length (members (group_of group.now)) }
     requires second { j < length (members (group_of group.now)) }
-    ensures { Continues sum (joint_at y.now z.now (group_of group.now) (placed_at (group_of group.now) i) (placed_at (group_of group.now) j) ∷ []) result }
+    ensures sum { Continues sum (joint_at y.now z.now (group_of group.now) (placed_at (group_of group.now) i) (placed_at (group_of group.now) j) ∷ []) result }
+    ensures ticks { steps.new ≤ steps.old + 12 }
 {
     let term = joint_term(group, y, i, z, j, steps)?;
     with_term(sum, &term, steps)
@@ -46,7 +48,8 @@ fn with_member<L: Ledger>(
 ) -> Result<Option<Span>, Overflow>
     requires regular { IsRegular (group_of group.now) }
     requires there { i < length (members (group_of group.now)) }
-    ensures { Continues sum (cross_row_at y.now z.now (group_of group.now) i) result }
+    ensures sum { Continues sum (cross_row_at y.now z.now (group_of group.now) i) result }
+    ensures ticks { steps.new ≤ steps.old + 12 * length (members (group_of group.now)) }
 {
     let mut sum = sum;
     for j in 0..group.count() {
@@ -63,7 +66,8 @@ fn group_covariance<L: Ledger>(
     steps: &mut Steps<L>,
 ) -> Result<Span, Overflow>
     requires regular { IsRegular (group_of group.now) }
-    ensures { result ≡ ok_or (group_covariance_span (found_at y.now) (found_at z.now) (group_of group.now)) (record {}) }
+    ensures span { result ≡ ok_or (group_covariance_span (found_at y.now) (found_at z.now) (group_of group.now)) (record {}) }
+    ensures ticks { steps.new ≤ steps.old + 12 * pairs (group_of group.now) }
 {
     let mut sum = None;
     for i in 0..group.count() {
@@ -81,7 +85,8 @@ fn with_group<L: Ledger>(
     steps: &mut Steps<L>,
 ) -> Result<Option<Span>, Overflow>
     requires regular { IsRegular (group_of group.now) }
-    ensures { Continues sum (cross_part_of y.now z.now (group_of group.now)) result }
+    ensures sum { Continues sum (cross_part_of y.now z.now (group_of group.now)) result }
+    ensures ticks { steps.new ≤ steps.old + 16 * pairs_of (λ g. meets (found_at y.now) g || meets (found_at z.now) g) (group_of group.now ∷ []) }
 {
     if !meets(group, y) && !meets(group, z) {
         return Ok(sum);
@@ -106,6 +111,7 @@ pub fn covariance<L: Ledger>(
     ensures span { result ≡ ok_or (combined_covariance_span (found_at y.now) (found_at z.now) (map group_of groups.now)) (record {}) }
     ensures encloses { (u w : ℕ → ℚ) → AllEnclose (found_at y.now) u → AllEnclose (found_at z.now) w
         → IfOk result (λ s. Encloses s (total (λ g. part g u w) (map exact_group (map group_of groups.now)))) }
+    ensures ticks { steps.new ≤ steps.old + 16 * pairs_of (λ g. meets (found_at y.now) g || meets (found_at z.now) g) (map group_of groups.now) }
 {
     let mut sum = None;
     for group in groups {

@@ -1,4 +1,4 @@
-ghost use Rattle.std.specs.Prelude.{◌≡◌, ◌<◌, true, Ok, IfOk, length, get_or, pos};
+ghost use Rattle.std.specs.Prelude.{◌≡◌, ◌<◌, ◌≤◌, ◌+◌, true, Ok, IfOk, length, get_or, pos};
 ghost use Rattle.std.specs.Option.{ok_or};
 ghost use Rattle.exact_fraction.specs.Number.{of_ℤ, neg_ℚ, ◌≤ℚ◌};
 ghost use Rattle.decimal18.specs.Bound.{value_of};
@@ -51,6 +51,7 @@ pub enum Group {
 }
 
 // The span of the covariance of a pair.
+#[tactic(auto, using(crate::proofs::Counting::deviation_steps))]
 fn covariance_of_pair<L: Ledger>(
     first: &Shape,
     second: &Shape,
@@ -61,7 +62,8 @@ fn covariance_of_pair<L: Ledger>(
     requires first_stated { states_deviation first.now ≡ true }
     requires second { checked second.now ≡ Ok (record {}) }
     requires second_stated { states_deviation second.now ≡ true }
-    ensures { result ≡ ok_or (pair_covariance_span first.now second.now coefficient) (record {}) }
+    ensures span { result ≡ ok_or (pair_covariance_span first.now second.now coefficient) (record {}) }
+    ensures ticks { steps.new ≤ steps.old + 9 }
 {
     let coefficient = point(coefficient, steps);
     let first = deviation(first, steps)?;
@@ -95,6 +97,7 @@ impl Group {
     }
 
     // The span of the covariance of the members at two places, and of the variance of one where they are the same.
+    #[tactic(auto, using(crate::proofs::Counting::variance_steps))]
     pub(crate) fn covariance<L: Ledger>(
         &self,
         i: usize,
@@ -104,7 +107,8 @@ impl Group {
         requires regular { IsRegular (group_of self.now) }
         requires first { i < length (members (group_of self.now)) }
         requires second { j < length (members (group_of self.now)) }
-        ensures { result ≡ ok_or (covariance_within (group_of self.now) i j) (record {}) }
+        ensures span { result ≡ ok_or (covariance_within (group_of self.now) i j) (record {}) }
+        ensures ticks { steps.new ≤ steps.old + 9 }
     {
         match self {
             Group::Single { shape, .. } => variance(shape, steps),
@@ -128,7 +132,7 @@ impl Group {
 }
 
 /// The span of the variance of the member at this place, counted from 0, in the square of its unit: as its
-/// uncertainty is stated (JCGM 100:2008, 4.3), or that of the mean of its readings (4.2.3).
+/// uncertainty is stated (JCGM 100:2008, 4.3), or that of the mean of its readings (4.2.3). It ticks at most nine times.
 ///
 /// # Errors
 ///
@@ -142,6 +146,7 @@ pub fn member_variance<L: Ledger>(
     requires there { at < length (members (group_of group.now)) }
     ensures span { result ≡ ok_or (covariance_within (group_of group.now) at at) (record {}) }
     ensures encloses { IfOk result (λ s. Encloses s (exact_within (group_of group.now) at at)) }
+    ensures ticks { steps.new ≤ steps.old + 9 }
 {
     group.covariance(at, at, steps)
 }

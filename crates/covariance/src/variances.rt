@@ -1,13 +1,15 @@
-ghost use Rattle.std.specs.Prelude.{◌≡◌, ◌<◌, ℕ, [], ◌∷◌, length, map, IfOk};
+ghost use Rattle.std.specs.Prelude.{◌≡◌, ◌<◌, ◌≤◌, ◌+◌, ◌*◌, ℕ, [], ◌∷◌, length, map, IfOk, pos};
 ghost use Rattle.std.specs.Option.{ok_or};
-ghost use Rattle.exact_fraction.specs.Number.{ℚ};
+ghost use Rattle.exact_fraction.specs.Number.{ℚ, of_ℤ, ◌≤ℚ◌};
 ghost use Rattle.exact_fraction.specs.Sums.{total};
 ghost use Rattle.exact_law.specs.Law.{part};
+ghost use Rattle.decimal18.specs.Bound.{value_of};
 ghost use Rattle.fixed_interval.specs.Interval.{Encloses};
 ghost use Rattle.fixed_interval.specs.Sums.{Continues};
 ghost use Rattle.covariance.specs.Gradients.{AllEnclose, found_at};
 ghost use Rattle.covariance.specs.Groups.{AreRegular, IsRegular, members, exact_group, group_of};
 ghost use Rattle.covariance.specs.Variances.{group_variance_span, meets, combined_variance_span};
+ghost use Rattle.covariance.specs.Costs.{pairs, pairs_of};
 ghost use Rattle.covariance.specs.Partial.{placed_at, own_at, joint_at, twice_at, row_at, part_of};
 
 use crate::gradient::Gradient;
@@ -25,7 +27,8 @@ fn own_term<L: Ledger>(
 ) -> Result<Span, Overflow>
     requires regular { IsRegular (group_of group.now) }
     requires there { i < length (members (group_of group.now)) }
-    ensures { result ≡ ok_or (own_at y.now (group_of group.now) (placed_at (group_of group.now) i)) (record {}) }
+    ensures span { result ≡ ok_or (own_at y.now (group_of group.now) (placed_at (group_of group.now) i)) (record {}) }
+    ensures ticks { steps.new ≤ steps.old + 11 }
 {
     let square = sqr(&y.at(group.member(i)), steps)?;
     let variance = group.covariance(i, i, steps)?;
@@ -44,7 +47,8 @@ pub(crate) fn joint_term<L: Ledger>(
     requires regular { IsRegular (group_of group.now) }
     requires first { i < length (members (group_of group.now)) }
     requires second { j < length (members (group_of group.now)) }
-    ensures { result ≡ ok_or (joint_at y.now z.now (group_of group.now) (placed_at (group_of group.now) i) (placed_at (group_of group.now) j)) (record {}) }
+    ensures span { result ≡ ok_or (joint_at y.now z.now (group_of group.now) (placed_at (group_of group.now) i) (placed_at (group_of group.now) j)) (record {}) }
+    ensures ticks { steps.new ≤ steps.old + 11 }
 {
     let product = mul(&y.at(group.member(i)), &z.at(group.member(j)), steps)?;
     let covariance = group.covariance(i, j, steps)?;
@@ -62,7 +66,8 @@ fn twice_term<L: Ledger>(
     requires regular { IsRegular (group_of group.now) }
     requires first { i < length (members (group_of group.now)) }
     requires second { j < length (members (group_of group.now)) }
-    ensures { result ≡ ok_or (twice_at y.now (group_of group.now) (placed_at (group_of group.now) i) (placed_at (group_of group.now) j)) (record {}) }
+    ensures span { result ≡ ok_or (twice_at y.now (group_of group.now) (placed_at (group_of group.now) i) (placed_at (group_of group.now) j)) (record {}) }
+    ensures ticks { steps.new ≤ steps.old + 13 }
 {
     let two = point(Dec::whole(2), steps);
     let term = joint_term(group, y, i, y, j, steps)?;
@@ -79,7 +84,8 @@ fn with_own<L: Ledger>(
 ) -> Result<Option<Span>, Overflow>
     requires regular { IsRegular (group_of group.now) }
     requires there { i < length (members (group_of group.now)) }
-    ensures { Continues sum (own_at y.now (group_of group.now) (placed_at (group_of group.now) i) ∷ []) result }
+    ensures sum { Continues sum (own_at y.now (group_of group.now) (placed_at (group_of group.now) i) ∷ []) result }
+    ensures ticks { steps.new ≤ steps.old + 12 }
 {
     let term = own_term(group, y, i, steps)?;
     with_term(sum, &term, steps)
@@ -97,7 +103,8 @@ fn with_twice<L: Ledger>(
     requires regular { IsRegular (group_of group.now) }
     requires first { i < length (members (group_of group.now)) }
     requires second { j < length (members (group_of group.now)) }
-    ensures { Continues sum (twice_at y.now (group_of group.now) (placed_at (group_of group.now) i) (placed_at (group_of group.now) j) ∷ []) result }
+    ensures sum { Continues sum (twice_at y.now (group_of group.now) (placed_at (group_of group.now) i) (placed_at (group_of group.now) j) ∷ []) result }
+    ensures ticks { steps.new ≤ steps.old + 14 }
 {
     let term = twice_term(group, y, i, j, steps)?;
     with_term(sum, &term, steps)
@@ -113,7 +120,8 @@ fn with_member<L: Ledger>(
 ) -> Result<Option<Span>, Overflow>
     requires regular { IsRegular (group_of group.now) }
     requires there { i < length (members (group_of group.now)) }
-    ensures { Continues sum (row_at y.now (group_of group.now) i) result }
+    ensures sum { Continues sum (row_at y.now (group_of group.now) i) result }
+    ensures ticks { steps.new ≤ steps.old + 14 * length (members (group_of group.now)) }
 {
     let count = group.count();
     let mut sum = with_own(sum, group, y, i, steps)?;
@@ -137,6 +145,8 @@ pub fn group_variance<L: Ledger>(
     requires regular { IsRegular (group_of group.now) }
     ensures span { result ≡ ok_or (group_variance_span (found_at y.now) (group_of group.now)) (record {}) }
     ensures encloses { (u : ℕ → ℚ) → AllEnclose (found_at y.now) u → IfOk result (λ s. Encloses s (part (exact_group (group_of group.now)) u u)) }
+    ensures not_negative { IfOk result (λ s. of_ℤ (pos 0) ≤ℚ value_of s.lo) }
+    ensures ticks { steps.new ≤ steps.old + (14 * pairs (group_of group.now) + 1) }
 {
     let mut sum = None;
     for i in 0..group.count() {
@@ -167,7 +177,8 @@ fn with_group<L: Ledger>(
     steps: &mut Steps<L>,
 ) -> Result<Option<Span>, Overflow>
     requires regular { IsRegular (group_of group.now) }
-    ensures { Continues sum (part_of y.now (group_of group.now)) result }
+    ensures sum { Continues sum (part_of y.now (group_of group.now)) result }
+    ensures ticks { steps.new ≤ steps.old + 16 * pairs_of (meets (found_at y.now)) (group_of group.now ∷ []) }
 {
     if !meets(group, y) {
         return Ok(sum);
@@ -191,6 +202,8 @@ pub fn variance<L: Ledger>(
     ensures span { result ≡ ok_or (combined_variance_span (found_at y.now) (map group_of groups.now)) (record {}) }
     ensures encloses { (u : ℕ → ℚ) → AllEnclose (found_at y.now) u
         → IfOk result (λ s. Encloses s (total (λ g. part g u u) (map exact_group (map group_of groups.now)))) }
+    ensures not_negative { IfOk result (λ s. of_ℤ (pos 0) ≤ℚ value_of s.lo) }
+    ensures ticks { steps.new ≤ steps.old + 16 * pairs_of (meets (found_at y.now)) (map group_of groups.now) }
 {
     let mut sum = None;
     for group in groups {

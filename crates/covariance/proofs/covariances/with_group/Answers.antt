@@ -1,17 +1,29 @@
 use Rattle.std.specs.Prelude.{◌||◌}
-use Rattle.std.proofs.Common.{rules}
+use Rattle.std.proofs.Common.{rules, arith}
 use Rattle.covariance.specs.Gradients.{found_at}
 use Rattle.covariance.specs.Groups.{group_of}
 use Rattle.covariance.specs.Variances.{group_covariance_span, meets}
 use Rattle.fixed_interval.proofs.SumLoops.{refused_part, part_there}
+use Rattle.covariance.specs.Costs.{pairs}
+use Rattle.covariance.proofs.Counting.{either_pair, group_spent, at_most_one_more}
 use Rattle.covariance.proofs.covariances.with_group.Goals as goal
 
-pub returns-in_err-term : goal.returns-in_err-term
-returns-in_err-term g c =
-    refused_part _ c.from_residual.ensures.0 c.args.sum (group_covariance_span (found_at c.args.y.now) (found_at c.args.z.now) (group_of c.args.group.now)) _ _ c.in_err-term.ensures
+pub returns-in_err-term-clause-sum : goal.returns-in_err-term-clause-sum
+returns-in_err-term-clause-sum g c =
+    refused_part _ c.from_residual.ensures.0 c.args.sum (group_covariance_span (found_at c.args.y.now) (found_at c.args.z.now) (group_of c.args.group.now)) _ _ c.in_err-term.ensures.span
     (meets (found_at c.args.y.now) (group_of c.args.group.now) || meets (found_at c.args.z.now) (group_of c.args.group.now)) (search rules)
 
-pub returns : goal.returns
-returns g c =
-    part_there _ c.args.sum (group_covariance_span (found_at c.args.y.now) (found_at c.args.z.now) (group_of c.args.group.now)) _ _ c.in_ok-term.ensures c.with_term.ensures.sum
+pub returns-clause-sum : goal.returns-clause-sum
+returns-clause-sum g c =
+    part_there _ c.args.sum (group_covariance_span (found_at c.args.y.now) (found_at c.args.z.now) (group_of c.args.group.now)) _ _ c.in_ok-term.ensures.span c.with_term.ensures.sum
     (meets (found_at c.args.y.now) (group_of c.args.group.now) || meets (found_at c.args.z.now) (group_of c.args.group.now)) (search rules)
+
+pub returns-in_err-term-clause-ticks : goal.returns-in_err-term-clause-ticks
+returns-in_err-term-clause-ticks g c =
+    group_spent (λ g. meets (found_at c.args.y.now) g || meets (found_at c.args.z.now) g) (group_of c.args.group.now) (search rules) (either_pair (found_at c.args.y.now) (found_at c.args.z.now) (group_of c.args.group.now) (search rules))
+    c.args.steps.now c.group_covariance.new.steps (omega (arith, c.in_err-term.ensures.ticks))
+
+pub returns-clause-ticks : goal.returns-clause-ticks
+returns-clause-ticks g c =
+    group_spent (λ g. meets (found_at c.args.y.now) g || meets (found_at c.args.z.now) g) (group_of c.args.group.now) (search rules) (either_pair (found_at c.args.y.now) (found_at c.args.z.now) (group_of c.args.group.now) (search rules))
+    c.args.steps.now c.with_term.new.steps (at_most_one_more c.group_covariance.new.steps c.with_term.new.steps c.args.steps.now c.args.sum (pairs (group_of c.args.group.now)) (omega (arith, c.in_ok-term.ensures.ticks)) c.with_term.ensures.ticks)

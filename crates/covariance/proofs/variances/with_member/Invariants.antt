@@ -1,4 +1,4 @@
-use Rattle.std.specs.Prelude.{◌<◌, map}
+use Rattle.std.specs.Prelude.{◌+◌, ◌*◌, ◌<◌, ◌≤◌, map}
 use Rattle.covariance.specs.Groups.{group_of}
 use Rattle.covariance.specs.Partial.{placed_at, placed_from, twice_at, row_at}
 use Rattle.fixed_interval.proofs.SumLoops.{Leaves}
@@ -9,4 +9,5 @@ invariant-loop-j g l = record {
   rest : Leaves l.sum (map (twice_at l.y (group_of l.group) (placed_at (group_of l.group) l.i)) (placed_from (group_of l.group) l.j))
       l.fn.sum (row_at l.y (group_of l.group) l.i);
   later : l.i < l.j;
+  ticks : l.steps ≤ l.fn.steps + 14 * l.j;
 }
