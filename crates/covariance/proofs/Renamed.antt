@@ -125,7 +125,7 @@ pub each_member_then : {K : Type 0} (P Q : K → Type 0) → ((k : K) → P k �
 each_member_then P Q h [] o = tt
 each_member_then P Q h (g ∷ gs) o = (each_then P Q h (members g) o.0, each_member_then P Q h gs o.1)
 
-module _ {K L : Type 0} (f : K → L) (P : K → Type 0) (counts : Group K → Bool) (counts' : Group L → Bool) (span : Group K → Option Interval) (span' : Group L → Option Interval)
+module _ {K L X : Type 0} (f : K → L) (P : K → Type 0) (counts : Group K → Bool) (counts' : Group L → Bool) (span : Group K → X) (span' : Group L → X)
     (as_counted : (g : Group K) → EachOf P (members g) → counts' (renamed_group f g) ≡ counts g)
     (as_spanned : (g : Group K) → EachOf P (members g) → span' (renamed_group f g) ≡ span g) where
   pub spans-renamed : (gs : List (Group K)) → EachMember P gs → map span' (filter counts' (map (renamed_group f) gs)) ≡ map span (filter counts gs)

@@ -19,4 +19,4 @@ pub use model_laws::{
     covariances_are_enclosed, groups_have_the_inputs, parts_are_enclosed, renaming_changes_no_span,
     variances_are_enclosed,
 };
-pub use variances::{group_variance, variance};
+pub use variances::{group_variance, meets, variance};

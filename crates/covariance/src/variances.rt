@@ -157,8 +157,8 @@ pub fn group_variance<L: Ledger>(
     Ok(floor_at(&sum, floor, steps))
 }
 
-// Whether a member of the group is in the gradient.
-pub(crate) fn meets(group: &Group, y: &Gradient) -> bool
+/// Whether a member of the group is in the gradient.
+pub fn meets(group: &Group, y: &Gradient) -> bool
     ensures { result ≡ meets (found_at y.now) (group_of group.now) }
 {
     for i in 0..group.count() {
