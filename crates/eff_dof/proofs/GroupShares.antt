@@ -1,16 +1,12 @@
 -- What is known of the degrees of groups allows the exact ones: a group that does not meet the cone brings nothing.
-use Rattle.std.specs.Prelude.{◌≡◌, ℕ, ◌-◌, Bool, true, false, cond, not, ◌&&◌, ◌||◌, if◌then◌else◌, List, [], ◌∷◌, map, filter, length, Option, None, Some, Result, Ok, Err, IfOk, pos, refl}
-use Rattle.std.specs.Option.{option_and_then}
+use Rattle.std.specs.Prelude.{◌≡◌, ◌-◌, Bool, true, false, cond, not, ◌&&◌, ◌||◌, if◌then◌else◌, List, [], ◌∷◌, map, filter, length, Option, None, Some, Ok, Err, pos, refl}
 use Rattle.std.proofs.Common.{sym, ◌∙◌, ap, ap₂, subst}
 use Rattle.exact_fraction.specs.Number.{ℚ, of_ℤ, ◌+ℚ◌, ◌*ℚ◌, ◌/ℚ◌, inv_ℚ, is_zero_ℚ}
 use Rattle.exact_fraction.proofs.Quotients.{≡-is_zero_ℚ}
 use Rattle.exact_fraction.proofs.Ring.{ring, Whole, ◌:+◌, ◌:*◌, x0}
 use Rattle.exact_fraction.specs.Sums.{total}
-use Rattle.exact_law.specs.Law.{part}
-use Rattle.exact_law.specs.Degrees.{Share, Degrees, NoDegrees, InfiniteDegrees, FiniteDegrees, inverse_degrees, counts, any_counts, weight, effective}
-use Rattle.fixed_interval.specs.Interval.{Interval, Encloses}
+use Rattle.exact_law.specs.Degrees.{Share, NoDegrees, InfiniteDegrees, FiniteDegrees, inverse_degrees, counts, any_counts, weight, effective}
 use Rattle.fixed_interval.specs.Sums.{Holds}
-use Rattle.fixed_interval.specs.declared.faults.Overflow.{Overflow}
 use Rattle.fixed_interval.proofs.Inclusions.{zero_ℚ}
 use Rattle.type_b.specs.Shapes.{inverse_degrees as stated_inverse}
 use Rattle.table_g2.specs.Known.{Allows, AreDegrees}
@@ -19,9 +15,9 @@ use Rattle.covariance.specs.Gradients.{Spans}
 use Rattle.covariance.specs.Groups.{Group, Single, Pair, Columns, exact_group}
 use Rattle.covariance.specs.Variances.{group_variance_span, meets}
 use Rattle.eff_dof.specs.declared.part.Part.{Part}
-use Rattle.eff_dof.specs.Parts.{AreParts, IsShareOf, AreSharesOf, exact_degrees}
+use Rattle.eff_dof.specs.Parts.{IsShareOf, AreSharesOf, exact_degrees}
 use Rattle.eff_dof.specs.Degrees.{known_degrees}
-use Rattle.eff_dof.specs.GroupParts.{degrees_of_group, AllGroups, HaveDegrees, part_of, all_there, parts_of, known_by_parts, known_degrees_of}
+use Rattle.eff_dof.specs.GroupParts.{degrees_of_group, AllGroups, HaveDegrees, parts_of, known_by_parts, known_degrees_of}
 use Rattle.eff_dof.proofs.Exact.{no_part}
 use Rattle.eff_dof.proofs.PartsOfGroups.{ArePartsOf, IsFrom, part-from, parts_beside, all-filter, are_parts}
 use Rattle.eff_dof.proofs.Sound.{degrees_sound, are_degrees}
@@ -115,6 +111,11 @@ degrees_in_range y groups d nu e =
     let found = by_parts (parts_of y groups) nu e in
     are_degrees found.0 (Ok nu) (found.1).1 (are_parts y groups found.0 d (found.1).0)
 
-pub known_at : {K : Type 0} (y : Spans K) (groups : List (Group K)) (o : Option (List Part)) → parts_of y groups ≡ o → known_degrees_of y groups ≡ known_by_parts o
+-- ---- by what the calls answered
+pub known_missing : {K : Type 0} (y : Spans K) (groups : List (Group K)) → parts_of y groups ≡ None → known_degrees_of y groups ≡ Err (record {})
 unfolding known_degrees_of
-known_at y groups o e = ap known_by_parts e
+known_missing y groups e = ap known_by_parts e
+
+pub known_there : {K : Type 0} (y : Spans K) (groups : List (Group K)) (ps : List Part) → parts_of y groups ≡ Some ps → known_degrees_of y groups ≡ known_degrees ps
+unfolding known_degrees_of
+known_there y groups ps e = ap known_by_parts e

@@ -4,3 +4,6 @@ pub mod Terms
 pub mod Counted
 pub mod Ranges
 pub mod Sound
+pub mod PartsOfGroups
+pub mod GroupShares
+pub mod OfModels

@@ -1,16 +1,14 @@
 -- The parts of groups: what a loop over groups finds, and what each part says of its group.
-use Rattle.std.specs.Prelude.{◌≡◌, ℕ, ◌+◌, ◌<◌, ◌≤◌, Bool, true, false, if◌then◌else◌, List, [], ◌∷◌, ◌++◌, map, filter, drop, get_or, length, Option, None, Some, refl}
-use Rattle.std.specs.Option.{option_map, option_and_then}
+use Rattle.std.specs.Prelude.{◌≡◌, Bool, true, false, if◌then◌else◌, List, [], ◌∷◌, map, filter, Option, None, Some, refl}
+use Rattle.std.specs.Option.{option_and_then}
 use Rattle.std.proofs.Common.{sym, ◌∙◌, ap, ap₂, subst}
-use Rattle.std.proofs.lemmas.List.{append_assoc, append-nil, drop_more, at_drop_more, at_drop_all}
 use Rattle.std.proofs.lemmas.Option.{same_Some, none-some}
 use Rattle.fixed_interval.specs.Interval.{Interval, sum_span}
 use Rattle.fixed_interval.specs.Sums.{both, sum_on, sum_of}
 use Rattle.fixed_interval.proofs.Sums.{sum_on-none}
 use Rattle.type_b.specs.Shapes.{IsDegrees}
-use Rattle.covariance.specs.declared.group.Group.{Group as CodeGroup}
 use Rattle.covariance.specs.Gradients.{Spans}
-use Rattle.covariance.specs.Groups.{Group, group_of}
+use Rattle.covariance.specs.Groups.{Group}
 use Rattle.covariance.specs.Variances.{group_variance_span, combined_variance_span, meets}
 use Rattle.covariance.proofs.NotNegative.{group_variance-from_zero, some-from_zero}
 use Rattle.eff_dof.specs.declared.part.Part.{Part}
@@ -19,82 +17,9 @@ use Rattle.eff_dof.specs.Degrees.{variances, variance_span}
 use Rattle.eff_dof.specs.GroupParts.{degrees_of_group, HasDegrees, AllGroups, HaveDegrees, part_by, part_of, put_before, all_there, parts_of}
 
 -- ---- lists of parts that may not be there
-put_twice : (ps : List Part) (p : Part) (o : Option (List Part)) → put_before ps (put_before (p ∷ []) o) ≡ put_before (ps ++ p ∷ []) o
-put_twice ps p None = refl
-put_twice ps p (Some qs) = ap Some (sym (append_assoc ps (p ∷ []) qs))
-
-pub put_nothing : (o : Option (List Part)) → put_before [] o ≡ o
-put_nothing None = refl
-put_nothing (Some qs) = refl
-
-put_more : (xs ys : List (Option Part)) (ps next : List Part) → put_before ps (all_there xs) ≡ Some next
-    → put_before ps (all_there (xs ++ ys)) ≡ put_before next (all_there ys)
-put_more [] ys ps next e = ap (λ qs. put_before qs (all_there ys)) (sym (append-nil ps) ∙ same_Some (ps ++ []) next e)
-put_more (None ∷ xs) ys ps next e = absurd (none-some next e)
-put_more (Some p ∷ xs) ys ps next e =
-    put_twice ps p (all_there (xs ++ ys)) ∙ put_more xs ys (ps ++ p ∷ []) next (sym (put_twice ps p (all_there xs)) ∙ e)
-
 rest_missing : (p : Part) (o : Option (List Part)) → put_before (p ∷ []) o ≡ None → o ≡ None
 rest_missing p None e = refl
 rest_missing p (Some qs) e = absurd (none-some (p ∷ qs) (sym e))
-
-put_missing : (xs ys : List (Option Part)) → all_there xs ≡ None → all_there (xs ++ ys) ≡ None
-put_missing [] ys e = absurd (none-some [] (sym e))
-put_missing (None ∷ xs) ys e = refl
-put_missing (Some p ∷ xs) ys e = ap (put_before (p ∷ [])) (put_missing xs ys (rest_missing p (all_there xs) e))
-
--- ---- one group after another
-abbrev met : {K : Type 0} → Spans K → List (Group K) → List (Option Part)
-met y gs = map (part_of y) (filter (meets y) gs)
-
-met-cons : {K : Type 0} (y : Spans K) (g : Group K) (gs : List (Group K)) → met y (g ∷ gs) ≡ met y (g ∷ []) ++ met y gs
-met-cons y g gs = by (meets y g) where
-  by : (b : Bool) → map (part_of y) (if b then g ∷ filter (meets y) gs else filter (meets y) gs) ≡ map (part_of y) (if b then g ∷ [] else []) ++ met y gs
-  by true = refl
-  by false = refl
-
-met-next : (y : Spans ℕ) (gs : List CodeGroup) (i : ℕ) (g : CodeGroup) → i < length gs → get_or gs i g ≡ g
-    → met y (map group_of (drop i gs)) ≡ met y (group_of g ∷ []) ++ met y (map group_of (drop (i + 1) gs))
-met-next y gs i g h e =
-    at_drop_more (λ xs. met y (map group_of xs)) gs i g h
-    ∙ ap (λ x. met y (map group_of (x ∷ drop (i + 1) gs))) e
-    ∙ met-cons y (group_of g) (map group_of (drop (i + 1) gs))
-
--- the parts so far, and those of the groups from a place on, are all parts
-abbrev pub LeavesParts : Spans ℕ → List CodeGroup → ℕ → List Part → Type 0
-LeavesParts y gs i ps = put_before ps (parts_of y (map group_of (drop i gs))) ≡ parts_of y (map group_of gs)
-
-pub parts-next : (y : Spans ℕ) (gs : List CodeGroup) (i : ℕ) (g : CodeGroup) (ps next : List Part) → i < length gs → get_or gs i g ≡ g → LeavesParts y gs i ps
-    → put_before ps (parts_of y (group_of g ∷ [])) ≡ Some next → LeavesParts y gs (i + 1) next
-parts-next y gs i g ps next h e l k =
-    sym (put_more (met y (group_of g ∷ [])) (met y (map group_of (drop (i + 1) gs))) ps next k)
-    ∙ ap (λ xs. put_before ps (all_there xs)) (sym (met-next y gs i g h e)) ∙ l
-
-pub parts-missing : (y : Spans ℕ) (gs : List CodeGroup) (i : ℕ) (g : CodeGroup) (ps : List Part) → i < length gs → get_or gs i g ≡ g → LeavesParts y gs i ps
-    → parts_of y (group_of g ∷ []) ≡ None → parts_of y (map group_of gs) ≡ None
-parts-missing y gs i g ps h e l k =
-    sym l ∙ ap (put_before ps) (ap all_there (met-next y gs i g h e) ∙ put_missing (met y (group_of g ∷ [])) (met y (map group_of (drop (i + 1) gs))) k)
-
-pub parts-end : (y : Spans ℕ) (gs : List CodeGroup) (i : ℕ) (ps : List Part) → length gs ≤ i → LeavesParts y gs i ps → parts_of y (map group_of gs) ≡ Some ps
-parts-end y gs i ps h l =
-    sym l ∙ ap (put_before ps) (at_drop_all (λ xs. parts_of y (map group_of xs)) gs i h) ∙ ap Some (append-nil ps)
-
-pub degrees-next : (gs : List CodeGroup) (i : ℕ) (g : CodeGroup) → i < length gs → get_or gs i g ≡ g → HaveDegrees (map group_of (drop i gs))
-    → HasDegrees (group_of g) × HaveDegrees (map group_of (drop (i + 1) gs))
-degrees-next gs i g h e r = subst (λ xs. HaveDegrees (map group_of xs)) (drop_more gs i g h ∙ ap (λ x. x ∷ drop (i + 1) gs) e) r
-
--- ---- one group
-pub one_left : (y : Spans ℕ) (g : Group ℕ) (ps : List Part) → meets y g ≡ false → put_before ps (parts_of y (g ∷ [])) ≡ Some ps
-one_left y g ps e =
-    ap (λ (b : Bool). put_before ps (all_there (map (part_of y) (if b then g ∷ [] else [])))) e ∙ ap Some (append-nil ps)
-
-pub one_there : (y : Spans ℕ) (g : Group ℕ) (ps : List Part) (p : Part) → meets y g ≡ true → part_of y g ≡ Some p
-    → put_before ps (parts_of y (g ∷ [])) ≡ Some (ps ++ p ∷ [])
-one_there y g ps p e f =
-    ap (λ (b : Bool). put_before ps (all_there (map (part_of y) (if b then g ∷ [] else [])))) e ∙ ap (λ o. put_before ps (all_there (o ∷ []))) f
-
-pub one_missing : (y : Spans ℕ) (g : Group ℕ) → meets y g ≡ true → part_of y g ≡ None → parts_of y (g ∷ []) ≡ None
-one_missing y g e f = ap (λ (b : Bool). all_there (map (part_of y) (if b then g ∷ [] else []))) e ∙ ap (λ o. all_there (o ∷ [])) f
 
 -- ---- the parts beside their groups
 abbrev pub ArePartsOf : {K : Type 0} → Spans K → List (Group K) → List Part → Type 0

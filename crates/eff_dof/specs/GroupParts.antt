@@ -1,6 +1,6 @@
 -- Effective degrees of freedom from groups of inputs (JCGM 100:2008, G.4.1): each group that has a member in the cone of
 -- a quantity brings a part to its variance.
-use Rattle.std.specs.Prelude.{ℕ, ◌-◌, List, [], ◌∷◌, ◌++◌, map, filter, length, Option, None, Some, Result, Err}
+use Rattle.std.specs.Prelude.{◌-◌, List, [], ◌∷◌, ◌++◌, map, filter, length, Option, None, Some, Result, Err}
 use Rattle.std.specs.Option.{option_map}
 use Rattle.exact_fraction.specs.Number.{ℚ}
 use Rattle.exact_law.specs.Law as law

@@ -1,3 +1,4 @@
 pub mod Parts
 pub mod Degrees
+pub mod GroupParts
 pub mod Worked

@@ -1,4 +1,4 @@
-ghost use Rattle.std.specs.Prelude.{◌≡◌, pos};
+ghost use Rattle.std.specs.Prelude.{◌≡◌, ◌+◌, ◌*◌, ◌≤◌, length, pos};
 ghost use Rattle.std.specs.Option.{ok_or};
 ghost use Rattle.exact_fraction.specs.Number.{of_ℤ, ◌≤ℚ◌};
 ghost use Rattle.decimal18.specs.Bound.{value_of};
@@ -13,7 +13,8 @@ use std::sync::ledger::Ledger;
 
 // The sum of the parts' variances.
 pub(crate) fn variance<L: Ledger>(parts: &[Part], steps: &mut Steps<L>) -> Result<Span, Overflow>
-    ensures { result ≡ ok_or (variance_span parts.now) (record {}) }
+    ensures span { result ≡ ok_or (variance_span parts.now) (record {}) }
+    ensures ticks { steps.new ≤ steps.old + length parts.now }
 {
     let mut sum = None;
     for part in parts {
@@ -31,7 +32,8 @@ fn with_part<L: Ledger>(
 ) -> Result<Option<Span>, Overflow>
     requires part { IsPartOf whole.now part.now }
     requires positive { ¬ (value_of whole.now.hi ≤ℚ of_ℤ (pos 0)) }
-    ensures { Continues sum (term_if (counts part.now) (term whole.now part.now)) result }
+    ensures sum { Continues sum (term_if (counts part.now) (term whole.now part.now)) result }
+    ensures ticks { steps.new ≤ steps.old + 5 }
 {
     if !counts(part) {
         return Ok(sum);
@@ -48,7 +50,8 @@ pub(crate) fn inverse<L: Ledger>(
 ) -> Result<Span, Overflow>
     requires parts { AllParts (IsPartOf whole.now) parts.now }
     requires positive { ¬ (value_of whole.now.hi ≤ℚ of_ℤ (pos 0)) }
-    ensures { result ≡ ok_or (inverse_span whole.now parts.now) (record {}) }
+    ensures span { result ≡ ok_or (inverse_span whole.now parts.now) (record {}) }
+    ensures ticks { steps.new ≤ steps.old + 5 * length parts.now }
 {
     let mut sum = None;
     for part in parts {

@@ -1,4 +1,4 @@
-ghost use Rattle.std.specs.Prelude.{◌≡◌, ◌≤◌, Some, pos};
+ghost use Rattle.std.specs.Prelude.{◌≡◌, ◌+◌, ◌≤◌, Some, pos};
 ghost use Rattle.std.specs.Option.{ok_or};
 ghost use Rattle.exact_fraction.specs.Number.{of_ℤ, ◌≤ℚ◌};
 ghost use Rattle.decimal18.specs.Bound.{scaled, value_of};
@@ -26,7 +26,8 @@ fn inverse_of_percent(percent: u8) -> Dec
 fn over_whole<L: Ledger>(a: &Span, number: u32, steps: &mut Steps<L>) -> Result<Span, Overflow>
     requires least { 1 ≤ number }
     requires most { number ≤ 1000000 }
-    ensures { result ≡ ok_or (quotient_span a.now (point_span (scaled (pos number) 0))) (record {}) }
+    ensures span { result ≡ ok_or (quotient_span a.now (point_span (scaled (pos number) 0))) (record {}) }
+    ensures ticks { steps.new ≡ steps.old + 2 }
 {
     let divisor = point(Dec::whole(number as i32), steps);
     div(a, &divisor, steps).map_err(|_| Overflow)
@@ -35,7 +36,8 @@ fn over_whole<L: Ledger>(a: &Span, number: u32, steps: &mut Steps<L>) -> Result<
 // The span of the quotients by ν.
 fn over_degrees<L: Ledger>(a: &Span, dof: Dof, steps: &mut Steps<L>) -> Result<Span, Overflow>
     requires { IsDegrees dof }
-    ensures { result ≡ ok_or (over_degrees dof a.now) (record {}) }
+    ensures span { result ≡ ok_or (over_degrees dof a.now) (record {}) }
+    ensures ticks { steps.new ≤ steps.old + 2 }
 {
     match dof {
         Dof::Inf => Ok(zero()),
@@ -55,7 +57,8 @@ pub(crate) fn term<L: Ledger>(
 ) -> Result<Span, Overflow>
     requires part { IsPartOf whole.now part.now }
     requires positive { ¬ (value_of whole.now.hi ≤ℚ of_ℤ (pos 0)) }
-    ensures { result ≡ ok_or (term whole.now part.now) (record {}) }
+    ensures span { result ≡ ok_or (term whole.now part.now) (record {}) }
+    ensures ticks { steps.new ≤ steps.old + 4 }
 {
     let share = share(&part.variance, whole, steps);
     let square = sqr(&share, steps)?;

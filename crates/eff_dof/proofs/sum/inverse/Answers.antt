@@ -8,16 +8,16 @@ use Rattle.eff_dof.specs.Degrees.{counts, term, terms}
 use Rattle.eff_dof.proofs.Sums.{terms-next, terms-end}
 use Rattle.eff_dof.proofs.sum.inverse.Goals as goal
 
-pub returns-in_err-sum : goal.returns-in_err-sum
-returns-in_err-sum g c =
+pub returns-in_err-sum-clause-span : goal.returns-in_err-sum-clause-span
+returns-in_err-sum-clause-span g c =
     let ps : List Part = c.args.parts.now in
     let v : Interval = c.args.whole.now in
     refused_sum _ c.from_residual.ensures.0 c.loop-part.sum (terms v (drop c.loop-part.part-index ps)) (term_if (counts c.part-item.result) (term v c.part-item.result))
     (terms v (drop (c.loop-part.part-index + 1) ps)) (terms v ps)
-    (terms-next v ps c.loop-part.part-index c.part-item.result (search rules) (sym c.part-item.is)) c.loop-part.invariant.rest c.in_err-sum.ensures
+    (terms-next v ps c.loop-part.part-index c.part-item.result (search rules) (sym c.part-item.is)) c.loop-part.invariant.rest c.in_err-sum.ensures.sum
 
-pub returns : goal.returns
-returns g c =
+pub returns-clause-span : goal.returns-clause-span
+returns-clause-span g c =
     let ps : List Part = c.args.parts.now in
     let v : Interval = c.args.whole.now in
     sum_there c.loop-part.sum c.unwrap_or.result (terms v (drop c.loop-part.part-index ps)) (terms v ps)
