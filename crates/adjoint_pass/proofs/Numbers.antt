@@ -33,15 +33,6 @@ pub has-turned : (ns : List ℕ) (n : ℕ) → list_any (λ m. nat_eq m n) ns �
 has-turned [] n = refl
 has-turned (m ∷ ns) n = ap₂ (λ a b. a || b) (turned m n) (has-turned ns n)
 
-  by : (b : Bool) → p m ≡ b → (t : Bool) → nat_eq n m ≡ t → has (filter p ns) n ≡ (has ns n && p n)
-      → has (if b then m ∷ filter p ns else filter p ns) n ≡ ((nat_eq n m || has ns n) && p n)
-  by true e true f rest = let passes : p n ≡ true = ap p (equal n m f) ∙ e in rw (f, passes) refl
-  by true e false f rest = rw f rest
-  by false e true f rest =
-      let fails : p n ≡ false = ap p (equal n m f) ∙ e in
-      rw f (rest ∙ rw fails (never (has ns n)) ∙ sym fails)
-  by false e false f rest = rw f rest
-
 -- before a place and from there on
 pub has-parts : (i : ℕ) (ns : List ℕ) (n : ℕ) → has ns n ≡ (has (take i ns) n || has (drop i ns) n)
 has-parts i ns n = ap (λ l. has l n) (sym (take-append-drop i ns)) ∙ list_any-append (nat_eq n) (take i ns) (drop i ns)

@@ -176,10 +176,6 @@ right-evaluation nodes bodies cells graph right n cell is =
     all.each (length qs) n cell (omega (arith, length-numbered bodies ids there)) (graph.placed n ∙ has-body bodies cells right n cell is) is
 
 -- ---- cones
-  by : (b : Bool) → p x ≡ b → (has (filter p xs) n ≡ true → has xs n ≡ true) → has (x ∷ xs) n ≡ true
-  by true q more = keep (nat_eq n x) (has (filter p xs) n) (has xs n) more (rw q at h)
-  by false q more = or_right (nat_eq n x) (has xs n) (more (rw q at h))
-
 or-turned : (a b c : Bool) → (a || b) ≡ true → (a ≡ true → c ≡ true) → (b || c) ≡ true
 or-turned true true c h more = refl
 or-turned true false c h more = more refl
