@@ -13,7 +13,7 @@ use Rattle.value_cache.specs.Evaluations.{span_in, evaluation_of}
 use Rattle.value_cache.proofs.Names.{find-distinct}
 use Rattle.adjoint_pass.specs.Sweep.{Node, users, sensitivity_through, sensitivity, is_in_cone_through, is_in_cone, cone}
 use Rattle.adjoint_pass.specs.Sensitivities.{uses_of, partial_by, part_of, node_of, span_at, nodes_of, depends_on, cone_of, sensitivity_of, has_gradient, gradient_of}
-use Rattle.adjoint_pass.specs.Renaming.{IsRenamedBody, AreRenamed}
+use Rattle.value_cache.specs.Renaming.{IsRenamedBody, AreRenamed}
 use Rattle.adjoint_pass.proofs.Lists.{all_weaker, any_same}
 use Rattle.adjoint_pass.proofs.Zips.{length-zip, zip-reverse, zip-map, zip-filter, map-zip, any-zip, all-zip}
 use Rattle.adjoint_pass.proofs.Partials.{any-map}

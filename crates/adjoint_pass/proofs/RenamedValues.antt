@@ -16,7 +16,7 @@ use Rattle.value_cache.specs.Evaluations.{Found, Named, span_in, is_fault, first
 use Rattle.value_cache.specs.Evaluable.{AreInOrder}
 use Rattle.value_cache.specs.declared.evaluation.Evaluation.{Evaluation}
 use Rattle.value_cache.specs.declared.evaluation.Evaluation.TheVariants.{Enclosed, Fault}
-use Rattle.adjoint_pass.specs.Renaming.{IsRenamedBody, IsRenamed, AreRenamed, renamed_evaluation}
+use Rattle.value_cache.specs.Renaming.{IsRenamedBody, IsRenamed, AreRenamed, renamed_evaluation}
 use Rattle.adjoint_pass.proofs.Lists.{all_weaker, all_from_both, all_unmapped, all_reversed}
 use Rattle.adjoint_pass.proofs.Zips.{length-zip, zip_with_all}
 use Rattle.adjoint_pass.proofs.Order.{IsLastFirst, reversed, known_all, known_later}

@@ -12,7 +12,7 @@ ghost use Rattle.value_cache.specs.Evaluable.{AreInOrder};
 ghost use Rattle.value_cache.specs.Model.{model_of, AllHaveExponents};
 ghost use Rattle.covariance.specs.Gradients.{sensitivity};
 ghost use Rattle.adjoint_pass.specs.Sensitivities.{AllKeepNamesApart, span_at, depends_on, cone_of, sensitivity_of, has_gradient, gradient_of};
-ghost use Rattle.adjoint_pass.specs.Renaming.{AreRenamed, renamed_evaluation};
+ghost use Rattle.value_cache.specs.Renaming.{AreRenamed, renamed_evaluation};
 ghost use Rattle.adjoint_pass.specs.Worked.{cubed, steep, pair, pair_by_bytes, first_byte};
 
 /// The span of a sensitivity encloses the derivative (JCGM 100:2008, 5.1.3) of the quantity's expanded formula

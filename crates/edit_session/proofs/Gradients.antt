@@ -25,12 +25,14 @@ use Rattle.answers.specs.declared.reply.Answer.TheVariants.{ValueFault, LawOverf
 use Rattle.answers.specs.declared.reply.Reply.{Reply}
 use Rattle.edit_session.specs.Replies.{after_value, after_gradient}
 use Rattle.edit_session.specs.Calls.{IsAskReply, RepliesWith}
-use Rattle.edit_session.specs.Walks.{Quantities}
-use Rattle.edit_session.specs.Numbering.{number_in, number_among, quantities_by, AreKept, HasNumber, IsWithout}
-use Rattle.edit_session.specs.declared.numbering.Numbered.{Numbered}
+use Rattle.sheet_model.specs.Walks.{Quantities}
+use Rattle.sheet_model.specs.Numbering.{number_in, number_among, quantities_by, AreKept}
+use Rattle.edit_session.specs.Gradients.{HasNumber, IsWithout}
+use Rattle.sheet_model.specs.declared.numbering.Numbered.{Numbered}
 use Rattle.edit_session.proofs.Calls.{said, not_asked}
-use Rattle.edit_session.proofs.Formulas.{same_names}
-use Rattle.edit_session.proofs.Asked.{kept_still, evaluation_still, renamed, number_is, enclosed_cell, fault_cell, fault_within, fault_named}
+use Rattle.sheet_model.proofs.Formulas.{same_names}
+use Rattle.sheet_model.proofs.KeptSheet.{kept_still, evaluation_still, renamed, number_is}
+use Rattle.edit_session.proofs.Asked.{enclosed_cell, fault_cell, fault_within, fault_named}
 use Rattle.edit_session.proofs.ReplyLaws.{IsFine}
 
 -- where the gradient is there, each sensitivity is what it has, or 0

@@ -2,13 +2,6 @@ pub mod Lists
 pub mod Standing
 pub mod Steps
 pub mod Calls
-pub mod Names
-pub mod Numbers
-pub mod Kept
-pub mod Formulas
-pub mod Fresh
-pub mod Columns
-pub mod Walking
 pub mod Inputs
 pub mod Asked
 pub mod Rebuilding

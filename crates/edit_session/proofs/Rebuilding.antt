@@ -6,9 +6,10 @@ use Rattle.std.proofs.lemmas.List.{append_assoc, append-nil, length-map, map-app
 use Rattle.std.proofs.lemmas.List.Folds.{list_any-append, list_all-append}
 use Rattle.std.proofs.lemmas.Bool.{true≢false, and_parts, or_parts, and_from, not-true}
 use Rattle.sheet_rows.specs.Rows.{Row, Given, Readings, Joint, Correlation, Formula, Sheet, name_of, used_names, gives, correlated_names, correlates, is_correlatable}
-use Rattle.sheet_edits.specs.Sheets.{IsWellFormed, row_limit, is_named, is_among, is_quantity_in, is_correlatable_in, repeated_name, are_correlatable, is_correlated_apart, are_apart, are_named_once, are_known, are_earlier, added, rows_with, set_row}
-use Rattle.sheet_edits.proofs.Conditions.{other_way, all_more, named_itself}
-use Rattle.sheet_edits.proofs.Verdicts.{quantity_any}
+use Rattle.sheet_rows.specs.Sheets.{IsWellFormed, row_limit, is_named, is_among, is_quantity_in, is_correlatable_in, repeated_name, are_correlatable, is_correlated_apart, are_apart, are_named_once, are_known, are_earlier}
+use Rattle.sheet_edits.specs.Verdicts.{added, rows_with, set_row}
+use Rattle.sheet_rows.proofs.Tests.{other_way, all_more, named_itself}
+use Rattle.sheet_rows.proofs.Quantities.{quantity_any}
 use Rattle.sheet_edits.proofs.Adding.{add_complete}
 use Rattle.sheet_edits.proofs.Setting.{set_complete}
 use Rattle.answers.specs.declared.reply.Reply.TheVariants.{Fine}

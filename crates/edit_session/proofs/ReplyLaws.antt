@@ -9,8 +9,7 @@ use Rattle.fixed_interval.specs.Interval.{Interval}
 use Rattle.fixed_interval.specs.Sums.{Holds}
 use Rattle.fixed_interval.specs.declared.faults.ArithFault.{ArithFault}
 use Rattle.sheet_rows.specs.Rows.{Sheet}
-use Rattle.sheet_edits.specs.Sheets.{has_quantity, has_input}
-use Rattle.sheet_edits.specs.Standing.{IsStanding}
+use Rattle.sheet_rows.specs.Sheets.{has_quantity, has_input, IsStanding}
 use Rattle.value_cache.specs.Evaluations.{evaluation_of}
 use Rattle.value_cache.specs.Model.{model_of}
 use Rattle.value_cache.specs.declared.evaluation.Evaluation.{Evaluation}
@@ -26,16 +25,18 @@ use Rattle.answers.specs.declared.reply.Answer.{Answer}
 use Rattle.answers.specs.declared.reply.Answer.TheVariants.{Value, Sensitivity, ValueFault}
 use Rattle.answers.specs.declared.reply.Reply.{Reply}
 use Rattle.answers.specs.declared.reply.Reply.TheVariants.{Ask, Said}
-use Rattle.edit_session.specs.Replies.{quantities, asked_of, after_value, after_gradient, law_reply, value_reply, slope_reply, sensitivity_reply, reply_to, unknown_result}
+use Rattle.sheet_model.specs.Quantities.{quantities}
+use Rattle.edit_session.specs.Replies.{asked_of, after_value, after_gradient, law_reply, value_reply, slope_reply, sensitivity_reply, reply_to, unknown_result}
 use Rattle.edit_session.specs.Machine.{State, kept_as, step, reply_at}
 use Rattle.edit_session.specs.Sound.{HasSensitivityIn, IsSoundAnswer, IsSoundReply, asked, IsSoundOn}
 use Rattle.edit_session.specs.Standing.{IsStandingState}
 use Rattle.edit_session.specs.Calls.{is_refusal}
 use Rattle.edit_session.proofs.Standing.{kept-standing}
-use Rattle.edit_session.proofs.Names.{there-is_quantity}
-use Rattle.edit_session.proofs.Formulas.{same_names}
-use Rattle.edit_session.proofs.Walking.{exponents_of_rows, evaluable, quantities_in_order}
-use Rattle.edit_session.proofs.Inputs.{sheet_input, names_apart}
+use Rattle.sheet_model.proofs.Names.{there-is_quantity}
+use Rattle.sheet_model.proofs.Formulas.{same_names}
+use Rattle.sheet_model.proofs.Walking.{exponents_of_rows, evaluable, quantities_in_order}
+use Rattle.sheet_model.proofs.Inputs.{sheet_input}
+use Rattle.edit_session.proofs.Inputs.{names_apart}
 
 -- ---- soundness: a reply is sound if what it goes on with is
 module _ (sheet : Sheet) where

@@ -3,8 +3,8 @@ use Rattle.std.specs.Prelude.{◌≡◌, ℕ, zero, suc, ◌-◌, Bool, true, fa
 use Rattle.std.proofs.Common.{ap, subst, arith}
 use Rattle.std.proofs.lemmas.Option.{none-some, same_Some}
 use Rattle.sheet_rows.specs.Rows.{Sheet}
-use Rattle.sheet_edits.specs.Sheets.{Verdict}
-use Rattle.sheet_edits.specs.Standing.{IsStanding}
+use Rattle.sheet_edits.specs.Verdicts.{Verdict}
+use Rattle.sheet_rows.specs.Sheets.{IsStanding}
 use Rattle.sheet_edits.proofs.Keeping.{add_stands, set_stands, remove_stands}
 use Rattle.answers.specs.Commands.{Edit, Add, Set, Remove, Command, IsRegularEdit, IsRegularCommand, Change, Undo, Redo, Mark, Restore, Ask, AskAt}
 use Rattle.answers.specs.declared.reply.Reply.{Reply}

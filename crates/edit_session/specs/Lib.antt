@@ -5,6 +5,5 @@ pub mod Live
 pub mod Standing
 pub mod States
 pub mod Calls
-pub mod Walks
-pub mod Numbering
+pub mod Gradients
 pub mod Rebuild

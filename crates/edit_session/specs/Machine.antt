@@ -3,7 +3,7 @@
 use Rattle.std.specs.Prelude.{ℕ, Bool, true, false, ◌-◌, ◌||◌, nat_lt, is_some, if◌then◌else◌, List, [], ◌∷◌, ◌++◌, length, take, drop, slice_get, Option, None, Some, Ok, Err, bytes_eq}
 use Rattle.std.specs.Map.{lookup}
 use Rattle.sheet_rows.specs.Rows.{Sheet, empty_sheet}
-use Rattle.sheet_edits.specs.Sheets.{Verdict, verdict_add, verdict_set, verdict_remove}
+use Rattle.sheet_edits.specs.Verdicts.{Verdict, verdict_add, verdict_set, verdict_remove}
 use Rattle.answers.specs.declared.command.Query.{Query}
 use Rattle.answers.specs.Commands.{Edit, Add, Set, Remove, Command, Change, Undo, Redo, Mark, Restore, Ask, AskAt}
 use Rattle.answers.specs.declared.fault.AskFault.TheVariants.{NoMark as NothingAsked}

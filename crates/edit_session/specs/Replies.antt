@@ -1,14 +1,12 @@
 -- The reply of a sheet to a query.
-use Rattle.std.specs.Prelude.{ℕ, Bool, if◌then◌else◌, List, [], ◌∷◌, map, Option, None, Some, bytes_eq}
-use Rattle.std.specs.List.{flat_map, enumerate_from}
+use Rattle.std.specs.Prelude.{ℕ, Bool, if◌then◌else◌, List, Option, None, Some, bytes_eq}
 use Rattle.fixed_interval.specs.Interval.{Interval}
-use Rattle.type_a.specs.Tables.{Table}
-use Rattle.sheet_rows.specs.Rows.{Row, Given, Readings, Joint, Correlation, Formula, Sheet, column_name}
-use Rattle.sheet_edits.specs.Sheets.{has_quantity, has_input}
-use Rattle.value_cache.specs.Quantities.{Input, Column, Quantity, by_names}
+use Rattle.sheet_rows.specs.Rows.{Sheet}
+use Rattle.sheet_rows.specs.Sheets.{has_quantity, has_input}
 use Rattle.value_cache.specs.Evaluations.{evaluation_of}
 use Rattle.value_cache.specs.declared.evaluation.Evaluation.{Evaluation}
 use Rattle.value_cache.specs.declared.evaluation.Evaluation.TheVariants.{Enclosed, Fault}
+use Rattle.sheet_model.specs.Quantities.{quantities}
 use Rattle.adjoint_pass.specs.Sensitivities.{sensitivity_of, has_gradient}
 use Rattle.answers.specs.declared.command.Query.{Query}
 use Rattle.answers.specs.declared.command.Query.TheVariants.{Value as AskValue, Sensitivity as AskSensitivity, Dump as AskDump}
@@ -17,27 +15,6 @@ use Rattle.answers.specs.declared.reply.Answer.{Answer}
 use Rattle.answers.specs.declared.reply.Answer.TheVariants.{Value, Sensitivity, Dump, ValueFault, LawOverflow}
 use Rattle.answers.specs.declared.reply.Reply.{Reply}
 use Rattle.answers.specs.declared.reply.Reply.TheVariants.{Ask, Said}
-
--- ---- the quantities of a sheet
--- a column of a table, by its place and its name
-abbrev pub column_quantity : List ℕ → Table → ℕ × List ℕ → Quantity (List ℕ)
-column_quantity name table column = record { key = column_name name column.1; body = Column table column.0 }
-
--- columns of a table in their order, the first of which is that at the place
-abbrev pub column_quantities : List ℕ → Table → ℕ → List (List ℕ) → List (Quantity (List ℕ))
-column_quantities name table place columns = map (column_quantity name table) (enumerate_from place columns)
-
--- those of a row, in their order, under the names that have a value by it. A row may have none
-abbrev pub row_quantities : Row → List (Quantity (List ℕ))
-row_quantities (Given name estimate shape dof) = record { key = name; body = Input estimate } ∷ []
-row_quantities (Readings name table) = record { key = name; body = Column table 0 } ∷ []
-row_quantities (Joint name columns table) = column_quantities name table 0 columns
-row_quantities (Correlation name first second coefficient) = []
-row_quantities (Formula name formula) = record { key = name; body = by_names formula } ∷ []
-
--- those of its rows, joined
-abbrev pub quantities : Sheet → List (Quantity (List ℕ))
-quantities sheet = flat_map row_quantities sheet.rows
 
 -- ---- what stands before the answer to a query. The order of these refusals and faults is this project's own
 -- whether a name is that of a result is decided first, by the sheet alone

@@ -10,7 +10,7 @@ use Rattle.answers.specs.declared.reply.Answer.{Answer}
 use Rattle.answers.specs.declared.reply.Answer.TheVariants.{Value, Sensitivity, Dump, ValueFault, LawOverflow}
 use Rattle.answers.specs.declared.reply.Reply.{Reply}
 use Rattle.answers.specs.declared.reply.Reply.TheVariants.{Fine, Line, Edit, History, Mark, Ask, Said}
-use Rattle.edit_session.specs.Replies.{quantities}
+use Rattle.sheet_model.specs.Quantities.{quantities}
 use Rattle.edit_session.specs.Machine.{State, kept_as}
 
 -- the value of y's expanded formula is defined, and the interval encloses its derivative by the input x

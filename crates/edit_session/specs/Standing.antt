@@ -1,7 +1,7 @@
 -- Sessions whose sheets all stand: each is well formed, and its rows are regular.
 use Rattle.std.specs.Prelude.{List, [], ◌∷◌}
 use Rattle.sheet_rows.specs.Rows.{Sheet}
-use Rattle.sheet_edits.specs.Standing.{IsStanding}
+use Rattle.sheet_rows.specs.Sheets.{IsStanding}
 use Rattle.edit_session.specs.Machine.{State, Marks}
 
 abbrev pub AllStand : List Sheet → Type 0

@@ -6,15 +6,16 @@ ghost use Rattle.answers.specs.declared.reply.Reply.{Reply};
 ghost use Rattle.edit_session.specs.Replies.{reply_to};
 ghost use Rattle.edit_session.specs.Sound.{IsSoundAnswer};
 ghost use Rattle.edit_session.specs.Calls.{IsAskReply, RepliesWith};
-ghost use Rattle.edit_session.specs.Numbering.{HasNumber, IsWithout};
+ghost use Rattle.edit_session.specs.Gradients.{HasNumber, IsWithout};
 
-use crate::numbering::Numbered;
+use crate::numbering::number_quantities;
 use adjoint_pass::{GradFault, gradient};
 use answers::{Answer, AskFault, Query};
 use fixed_interval::Steps;
 use formula_ast::Name;
 use line_text::OutOfMemory;
 use sheet_edits::Sheet;
+use sheet_model::Numbered;
 use sheet_rows::RowList;
 use std::alloc::Global;
 use std::sync::ledger::Ledger;
@@ -62,7 +63,7 @@ fn value_of<L: Ledger>(
     }
     // The sheet stands, as the contract of `rows` says, so that each of its quantities has an evaluation.
     let _rows = sheet.rows();
-    let mut numbered = Numbered::new(alloc, sheet)?;
+    let mut numbered = number_quantities(alloc, sheet)?;
     let id = numbered.number(&name);
     match numbered.cell(id, steps)? {
         Evaluation::Enclosed(span) => Ok(Answer::Value(name, span)),
@@ -90,7 +91,7 @@ fn sensitivity_of<L: Ledger>(
     }
     // The sheet stands, as the contract of `rows` says.
     let _rows = sheet.rows();
-    let mut numbered = Numbered::new(alloc, sheet)?;
+    let mut numbered = number_quantities(alloc, sheet)?;
     let id = numbered.number(&y);
     let _cell = numbered.cell(id, steps)?;
     match gradient(alloc, &numbered.graph, &numbered.cache, id, steps) {

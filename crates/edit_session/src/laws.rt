@@ -3,8 +3,7 @@
 
 ghost use Rattle.std.specs.Prelude.{◌≡◌, ◌↔◌, ℕ, false, List, Some};
 ghost use Rattle.sheet_rows.specs.Rows.{Sheet};
-ghost use Rattle.sheet_edits.specs.Sheets.{IsWellFormed, has_quantity};
-ghost use Rattle.sheet_edits.specs.Standing.{IsStanding};
+ghost use Rattle.sheet_rows.specs.Sheets.{IsWellFormed, has_quantity, IsStanding};
 ghost use Rattle.answers.specs.Commands.{Command, IsRegularCommand};
 ghost use Rattle.answers.specs.declared.command.Query.{Query};
 ghost use Rattle.answers.specs.declared.command.Query.TheVariants.{Value as AskValue};

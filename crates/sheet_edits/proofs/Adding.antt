@@ -7,9 +7,12 @@ use Rattle.std.proofs.lemmas.List.Folds.{list_all-append, list_any-append}
 use Rattle.std.proofs.lemmas.Bool.{lt-leb, leb-false, and_parts, or_parts, and_from, not-true}
 use Rattle.sheet_rows.specs.Rows.{Row, Sheet, name_of, used_names, is_correlatable}
 use Rattle.sheet_rows.specs.declared.edit_fault.EditFault.TheVariants.{RowsFull, Duplicate}
-use Rattle.sheet_edits.specs.Sheets.{IsWellFormed, IsAccepted, is_named, is_among, has_row, is_quantity_in, is_correlatable_in, are_known, are_correlatable, are_apart, are_named_once, are_earlier, row_limit, added, unless_uses_fail, verdict_add}
-use Rattle.sheet_edits.proofs.Conditions.{ok_same, cond_ok, all_more, other_way}
-use Rattle.sheet_edits.proofs.Verdicts.{quantity_append, with_last, added_has, before_added, uses_ok, ok_uses}
+use Rattle.sheet_rows.specs.Sheets.{IsWellFormed, is_named, is_among, has_row, is_quantity_in, is_correlatable_in, are_known, are_correlatable, are_apart, are_named_once, are_earlier, row_limit}
+use Rattle.sheet_edits.specs.Verdicts.{IsAccepted, added, unless_uses_fail, verdict_add}
+use Rattle.sheet_edits.proofs.Conditions.{ok_same, cond_ok}
+use Rattle.sheet_rows.proofs.Tests.{all_more, other_way}
+use Rattle.sheet_rows.proofs.Quantities.{quantity_append, added_has}
+use Rattle.sheet_edits.proofs.Verdicts.{with_last, before_added, uses_ok, ok_uses}
 use Rattle.sheet_edits.proofs.Correlated.{correlatable_more, apart_after_added}
 
 -- ---- names

@@ -7,8 +7,9 @@ use Rattle.std.proofs.Math.Bool.{or-false}
 use Rattle.std.proofs.lemmas.Bool.{and_parts, and_from}
 use Rattle.std.proofs.lemmas.List.Folds.{list_any-append, list_all-append}
 use Rattle.sheet_rows.specs.Rows.{Row, Sheet, Given, Readings, Joint, Correlation, Formula, name_of, used_names, correlated_names, correlates}
-use Rattle.sheet_edits.specs.Sheets.{is_named, is_correlatable_in, repeated_name, are_correlatable, is_correlated_apart, are_apart, rows_with, rows_without, first_not_correlatable, first_correlated}
-use Rattle.sheet_edits.proofs.Conditions.{none_all, all_none, all_more, all_two, all_true, all_pairs, none_passes, none_found, found_of_none, list_all_agree, named_itself, other_way, both_ways_same}
+use Rattle.sheet_rows.specs.Sheets.{is_named, is_correlatable_in, repeated_name, are_correlatable, is_correlated_apart, are_apart}
+use Rattle.sheet_edits.specs.Verdicts.{rows_with, rows_without, first_not_correlatable, first_correlated}
+use Rattle.sheet_rows.proofs.Tests.{none_all, all_none, all_more, all_two, all_true, all_pairs, none_passes, none_found, found_of_none, list_all_agree, named_itself, other_way, both_ways_same}
 
 -- ---- a correlation uses its names
 pub correlated_used : (row : Row) (p : List ℕ → Bool) → list_any p (used_names row) ≡ false → list_any p (correlated_names row) ≡ false

@@ -9,7 +9,8 @@ use Rattle.std.specs.Option.{option_map}
 use Rattle.indexmap.specs.IndexMap.{insert_entry, set_value_at}
 use Rattle.indexmap.proofs.MapLemmas.{Missing-position, insert_entry-absent}
 use Rattle.sheet_rows.specs.Rows.{Row, Sheet, name_of}
-use Rattle.sheet_edits.specs.Sheets.{is_named, rows_with}
+use Rattle.sheet_rows.specs.Sheets.{is_named}
+use Rattle.sheet_edits.specs.Verdicts.{rows_with}
 use Rattle.sheet_edits.proofs.Positions.{some_same, IsFirstAt}
 use Rattle.sheet_edits.proofs.Verdicts.{rows_set}
 

@@ -2,11 +2,12 @@
 use Rattle.std.proofs.Common.{◌≡◌, ℕ, List, Result, Ok, Err, sym, subst, OnOk}
 use Rattle.sheet_rows.specs.declared.edit_fault.EditFault.{EditFault}
 use Rattle.sheet_rows.specs.Rows.{Row, Sheet}
-use Rattle.sheet_edits.specs.Sheets.{Verdict, IsAccepted, added, set_row, removed, verdict_add, verdict_set, verdict_remove}
+use Rattle.sheet_edits.specs.Verdicts.{Verdict, IsAccepted, added, set_row, removed, verdict_add, verdict_set, verdict_remove}
 use Rattle.sheet_rows.specs.Regular.{IsRegular, AreRegular}
-use Rattle.sheet_edits.specs.Standing.{IsStanding}
+use Rattle.sheet_rows.specs.Sheets.{IsStanding}
 use Rattle.sheet_edits.specs.Places.{IsVerdict, IsChecked}
-use Rattle.sheet_edits.proofs.Regular.{regular_added, regular_set, regular_removed}
+use Rattle.sheet_rows.proofs.RegularRows.{regular_added}
+use Rattle.sheet_edits.proofs.Regular.{regular_set, regular_removed}
 use Rattle.sheet_edits.proofs.Adding.{add_accepted}
 use Rattle.sheet_edits.proofs.Setting.{set_accepted}
 use Rattle.sheet_edits.proofs.Removing.{remove_accepted}

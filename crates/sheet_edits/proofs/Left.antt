@@ -8,13 +8,15 @@ use Rattle.std.proofs.lemmas.Bool.{and_parts, and_from, and_right, not_from_true
 use Rattle.sheet_rows.specs.Regular.{IsRegular, AreRegular}
 use Rattle.sheet_rows.specs.Rows.{Row, Sheet, Given, Readings, Joint, Correlation, Formula, name_of, row_part, used_names, gives, is_table, correlated_names, correlates, is_correlatable}
 use Rattle.sheet_rows.specs.declared.edit_fault.EditFault.TheVariants.{InUse}
-use Rattle.sheet_edits.specs.Sheets.{IsWellFormed, is_named, has_row, is_quantity_in, is_correlatable_in, repeated_name, are_known, are_correlatable, rows_with, set_row, unless, is_left_without, unless_left}
+use Rattle.sheet_rows.specs.Sheets.{IsWellFormed, is_named, has_row, is_quantity_in, is_correlatable_in, repeated_name, are_known, are_correlatable}
+use Rattle.sheet_edits.specs.Verdicts.{rows_with, set_row, unless, is_left_without, unless_left}
 use Rattle.sheet_edits.specs.Places.{is_left_by, loses, loses_nothing}
-use Rattle.sheet_edits.proofs.Conditions.{all_more, all_two, found_of_none, same_name, named_itself, both_ways_same}
+use Rattle.sheet_rows.proofs.Tests.{all_more, all_two, found_of_none, same_name, named_itself, both_ways_same}
 use Rattle.sheet_edits.proofs.Correlated.{correlatable_more, all_set}
-use Rattle.sheet_edits.proofs.Named.{holds, has_found}
+use Rattle.sheet_rows.proofs.Named.{holds, has_found}
 use Rattle.sheet_edits.proofs.Regular.{regular_found}
-use Rattle.sheet_edits.proofs.Verdicts.{gives_part, quantity_found, set_known, set_correlatable, found_any, found_named}
+use Rattle.sheet_rows.proofs.Quantities.{gives_part, quantity_found}
+use Rattle.sheet_edits.proofs.Verdicts.{set_known, set_correlatable, found_any, found_named}
 
 -- ---- one name that passes another test
 -- what passed passes still

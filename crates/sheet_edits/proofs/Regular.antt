@@ -1,16 +1,11 @@
--- Regular rows, in lists of rows.
-use Rattle.std.proofs.Common.{◌≡◌, ℕ, zero, suc, Bool, true, false, ◌||◌, cond, List, [], ◌∷◌, ◌++◌, take, Some, refl, sym, ap, subst, ◌∙◌, true≢false}
+-- Regular rows, after a row was set or taken out.
+use Rattle.std.proofs.Common.{◌≡◌, ℕ, zero, suc, Bool, true, false, cond, List, [], ◌∷◌, take, Some, subst}
 use Rattle.std.specs.Prelude.{find}
-use Rattle.sheet_rows.specs.Rows.{Row, Given, Readings, Joint, Correlation, Formula, name_of}
+use Rattle.sheet_rows.specs.Rows.{Row, name_of}
 use Rattle.sheet_rows.specs.Regular.{IsRegular, AreRegular}
-use Rattle.formula_ast.specs.Names.{is_plain_name}
-use Rattle.sheet_edits.specs.Sheets.{is_named, is_among, rows_with, rows_without}
-use Rattle.sheet_edits.proofs.Conditions.{same_name}
+use Rattle.sheet_rows.specs.Sheets.{is_named}
+use Rattle.sheet_edits.specs.Verdicts.{rows_with, rows_without}
 use Rattle.sheet_edits.proofs.Positions.{some_same}
-
-pub regular_added : (rows : List Row) (row : Row) → AreRegular rows → IsRegular row → AreRegular (rows ++ row ∷ [])
-regular_added [] row h g = (g, tt)
-regular_added (r ∷ rs) row h g = (h.0, regular_added rs row h.1 g)
 
 cond_regular : (t : Bool) (a b : List Row) → AreRegular a → AreRegular b → AreRegular (cond t a b)
 cond_regular true a b h g = h
@@ -35,19 +30,3 @@ regular_found p (r ∷ rs) row h e = by (p r) e (regular_found p rs row h.1) whe
   by : (t : Bool) → cond t (Some r) (find p rs) ≡ Some row → (find p rs ≡ Some row → IsRegular row) → IsRegular row
   by true f rest = subst IsRegular (some_same f) h.0
   by false f rest = rest f
-
--- ---- names
-pub plain_row : (row : Row) → IsRegular row → is_plain_name (name_of row) ≡ true
-plain_row (Given name estimate shape dof) h = h.0
-plain_row (Readings name table) h = h.0
-plain_row (Joint name columns table) h = h.0
-plain_row (Correlation name first second coefficient) h = h.0
-plain_row (Formula name formula) h = h.0
-
--- a name that is not plain is that of no row
-pub no_row : (rows : List Row) (n : List ℕ) → AreRegular rows → is_plain_name n ≡ false → is_among rows n ≡ false
-no_row [] n h e = refl
-no_row (r ∷ rs) n h e = by (is_named n r) refl (no_row rs n h.1 e) where
-  by : (t : Bool) → is_named n r ≡ t → is_among rs n ≡ false → is_among (r ∷ rs) n ≡ false
-  by true f rest = absurd (true≢false (sym (ap is_plain_name (same_name n (name_of r) f) ∙ plain_row r h.0) ∙ e))
-  by false f rest = λ j. f j || rest j

@@ -6,15 +6,19 @@ use Rattle.std.specs.List.{list_any, list_all}
 use Rattle.sheet_rows.specs.Rows.{Row, Sheet, Given, Readings, Joint, Correlation, Formula, name_of, row_part, used_names, gives, correlated_names, is_correlatable}
 use Rattle.sheet_rows.specs.Regular.{IsRegular, AreRegular}
 use Rattle.sheet_rows.specs.declared.edit_fault.EditFault.TheVariants.{InUse}
-use Rattle.sheet_edits.specs.Sheets.{IsWellFormed, IsAccepted, is_named, is_among, has_row, is_quantity_in, is_correlatable_in, repeated_name, are_known, are_correlatable, are_named_once, are_earlier, rows_without, removed, unless, is_user_of, verdict_remove, verdict_on_removal}
+use Rattle.sheet_rows.specs.Sheets.{IsWellFormed, is_named, is_among, has_row, is_quantity_in, is_correlatable_in, repeated_name, are_known, are_correlatable, are_named_once, are_earlier}
+use Rattle.sheet_edits.specs.Verdicts.{IsAccepted, rows_without, removed, unless, is_user_of, verdict_remove, verdict_on_removal}
 use Rattle.std.proofs.Math.Bool.{or-false}
 use Rattle.std.proofs.lemmas.Bool.{and_parts, and_right, or_parts, and_from, not-true}
 use Rattle.std.proofs.lemmas.List.Folds.{list_any-append}
-use Rattle.sheet_edits.proofs.Conditions.{err_ok, ok_same, unless_ok, none_of, same_name}
+use Rattle.sheet_edits.proofs.Conditions.{err_ok, ok_same, unless_ok}
+use Rattle.sheet_rows.proofs.Tests.{none_of, same_name}
 use Rattle.sheet_edits.proofs.Positions.{some_same}
-use Rattle.sheet_edits.proofs.Regular.{regular_added, regular_removed, regular_found}
+use Rattle.sheet_rows.proofs.RegularRows.{regular_added}
+use Rattle.sheet_edits.proofs.Regular.{regular_removed, regular_found}
 use Rattle.sheet_edits.proofs.Correlated.{correlated_used, part, apart_after_removed}
-use Rattle.sheet_edits.proofs.Verdicts.{quantity_any, quantity_last, quantity_append, gives_part, no_quantity, missing_find, found_any, found_named}
+use Rattle.sheet_rows.proofs.Quantities.{quantity_any, quantity_last, quantity_append, gives_part, no_quantity}
+use Rattle.sheet_edits.proofs.Verdicts.{missing_find, found_any, found_named}
 
 module _ (n : List ℕ) where
   -- ---- names

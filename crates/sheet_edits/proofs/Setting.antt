@@ -8,11 +8,14 @@ use Rattle.std.proofs.lemmas.Bool.{and_parts, and_from, and_right, or_parts, or_
 use Rattle.sheet_rows.specs.Rows.{Row, Sheet, name_of, row_part, used_names, gives}
 use Rattle.sheet_rows.specs.Regular.{IsRegular, AreRegular}
 use Rattle.sheet_rows.specs.declared.edit_fault.EditFault.TheVariants.{Unknown, InUse}
-use Rattle.sheet_edits.specs.Sheets.{IsWellFormed, IsAccepted, is_named, is_among, has_row, is_quantity_in, are_known, are_correlatable, are_apart, are_named_once, are_earlier, rows_with, set_row, rows_before, unless, is_left_without, unless_left, verdict_on_set, verdict_set}
-use Rattle.sheet_edits.proofs.Conditions.{ok_same, unless_ok, cond_err, none_of, all_two, all_both, found_of_none, same_name, named_itself}
-use Rattle.sheet_edits.proofs.Named.{once_head, once_tail}
+use Rattle.sheet_rows.specs.Sheets.{IsWellFormed, is_named, is_among, has_row, is_quantity_in, are_known, are_correlatable, are_apart, are_named_once, are_earlier}
+use Rattle.sheet_edits.specs.Verdicts.{IsAccepted, rows_with, set_row, rows_before, unless, is_left_without, unless_left, verdict_on_set, verdict_set}
+use Rattle.sheet_edits.proofs.Conditions.{ok_same, unless_ok, cond_err}
+use Rattle.sheet_rows.proofs.Tests.{none_of, all_two, all_both, found_of_none, same_name, named_itself}
+use Rattle.sheet_rows.proofs.Named.{once_head, once_tail}
 use Rattle.sheet_edits.proofs.Correlated.{apart_after_set}
-use Rattle.sheet_edits.proofs.Verdicts.{quantity_append, quantity_last, gives_part, set_has, set_known, uses_ok, ok_uses}
+use Rattle.sheet_rows.proofs.Quantities.{quantity_append, quantity_last, gives_part}
+use Rattle.sheet_edits.proofs.Verdicts.{set_has, set_known, uses_ok, ok_uses}
 
 -- rows before which the names stand that stood there and are quantities still
 still_earlier : (all a b rs : List Row) → ((n : List ℕ) → is_quantity_in a n ≡ true → is_quantity_in all n ≡ true → is_quantity_in b n ≡ true)

@@ -4,7 +4,8 @@ use Rattle.std.specs.List.{list_any}
 use Rattle.std.specs.Option.{option_or}
 use Rattle.line_text.specs.Memory.{Gives}
 use Rattle.sheet_rows.specs.Rows.{Row, Sheet, row_of, name_of, row_part, used_names, names_used, gives, is_table, correlated_names, correlates, is_correlatable}
-use Rattle.sheet_edits.specs.Sheets.{Verdict, is_named, has_quantity, is_correlatable_in, repeated_name, first_correlated, unless}
+use Rattle.sheet_edits.specs.Verdicts.{Verdict, first_correlated, unless}
+use Rattle.sheet_rows.specs.Sheets.{is_named, has_quantity, is_correlatable_in, repeated_name}
 use Rattle.sheet_rows.specs.declared.row.Row.{Row as CodeRow}
 use Rattle.sheet_rows.specs.declared.edit_fault.EditFault.{EditFault}
 use Rattle.sheet_rows.specs.declared.edit_fault.EditFault.TheVariants.{OutOfMemory, Unknown, NotEarlier, NotCorrelatable, AlreadyCorrelated}

@@ -2,7 +2,7 @@
 use Rattle.std.specs.Prelude.{◌≡◌, map}
 use Rattle.std.specs.Map.{keys_of}
 use Rattle.sheet_rows.specs.Rows.{Sheet, row_of, name_of}
-use Rattle.sheet_edits.specs.Standing.{IsStanding}
+use Rattle.sheet_rows.specs.Sheets.{IsStanding}
 use Rattle.sheet_edits.specs.declared.sheet.Sheet.TheInside.{Inside}
 
 abbrev pub sheet_of : Inside → Sheet

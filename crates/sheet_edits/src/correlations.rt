@@ -1,6 +1,7 @@
 ghost use Rattle.std.specs.Prelude.{◌≡◌, ◌&&◌, not};
 ghost use Rattle.sheet_rows.specs.Rows.{row_of, name_of, correlates};
-ghost use Rattle.sheet_edits.specs.Sheets.{Verdict, is_named, is_correlated_apart, first_correlated, unless};
+ghost use Rattle.sheet_edits.specs.Verdicts.{Verdict, first_correlated, unless};
+ghost use Rattle.sheet_rows.specs.Sheets.{is_named, is_correlated_apart};
 ghost use Rattle.sheet_edits.specs.Places.{is_correlatable_with, first_not_correlatable_with, IsChecked};
 ghost use Rattle.sheet_rows.specs.declared.edit_fault.EditFault.TheVariants.{NotCorrelatable, AlreadyCorrelated};
 

@@ -1,8 +1,8 @@
 ghost use Rattle.std.specs.Prelude.{◌≡◌, ℕ, List, false, find, not, Some, None, Ok, Err, OnErr, OnOk, IfOk, IfErr, slice_get};
 ghost use Rattle.sheet_rows.specs.Rows.{row_of, name_of, row_part, names_used};
 ghost use Rattle.sheet_rows.specs.Regular.{IsRegular};
-ghost use Rattle.sheet_edits.specs.Standing.{IsStanding};
-ghost use Rattle.sheet_edits.specs.Sheets.{Verdict, is_named, has_row, added, set_row, removed, unless, unless_left, verdict_add, verdict_set, verdict_remove};
+ghost use Rattle.sheet_rows.specs.Sheets.{IsStanding, is_named, has_row};
+ghost use Rattle.sheet_edits.specs.Verdicts.{Verdict, added, set_row, removed, unless, unless_left, verdict_add, verdict_set, verdict_remove};
 ghost use Rattle.sheet_edits.specs.Places.{place_of, is_known_with, stands_before, loses_nothing, unless_names_fail, verdict_of, IsVerdict, IsChecked};
 ghost use Rattle.sheet_rows.specs.declared.edit_fault.EditFault.{EditFault};
 ghost use Rattle.sheet_rows.specs.declared.edit_fault.EditFault.TheVariants.{Unknown, NotEarlier};

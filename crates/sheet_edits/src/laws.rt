@@ -1,8 +1,8 @@
 ghost use Rattle.std.specs.Prelude.{◌≡◌, true, List, ℕ, Ok};
 ghost use Rattle.sheet_rows.specs.Rows.{Row, Sheet, empty_sheet, name_of};
 ghost use Rattle.sheet_rows.specs.Regular.{IsRegular};
-ghost use Rattle.sheet_edits.specs.Standing.{IsStanding};
-ghost use Rattle.sheet_edits.specs.Sheets.{IsWellFormed, IsAccepted, has_row, added, set_row, removed, verdict_add, verdict_set, verdict_remove};
+ghost use Rattle.sheet_rows.specs.Sheets.{IsStanding, IsWellFormed, has_row};
+ghost use Rattle.sheet_edits.specs.Verdicts.{IsAccepted, added, set_row, removed, verdict_add, verdict_set, verdict_remove};
 
 /// A row is added exactly where the sheet with it put last is well formed, and that is then the sheet.
 pub fn adding_is_accepted_where_well_formed()

@@ -1,8 +1,8 @@
 ghost use Rattle.std.specs.Prelude.{◌≡◌, ◌<◌, map, length, find, None, Some, remove, slice_get, IfOk, OnOk, OnErr};
 ghost use Rattle.std.specs.Option.{option_map};
 ghost use Rattle.sheet_rows.specs.Rows.{empty_sheet, row_of, row_part};
-ghost use Rattle.sheet_edits.specs.Standing.{IsStanding};
-ghost use Rattle.sheet_edits.specs.Sheets.{is_named, has_quantity, has_input, is_correlatable_in, added, set_row};
+ghost use Rattle.sheet_rows.specs.Sheets.{IsStanding, is_named, has_quantity, has_input, is_correlatable_in};
+ghost use Rattle.sheet_edits.specs.Verdicts.{added, set_row};
 ghost use Rattle.sheet_edits.specs.Places.{place_of, code_name};
 
 use formula_ast::{Name, cut};

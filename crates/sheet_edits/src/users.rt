@@ -4,7 +4,7 @@ ghost use Rattle.std.specs.Option.{option_map};
 ghost use Rattle.formula_ast.specs.Trees.{uses};
 ghost use Rattle.formula_ast.specs.Views.{tree_of};
 ghost use Rattle.sheet_rows.specs.Rows.{row_of, name_of, used_names};
-ghost use Rattle.sheet_edits.specs.Sheets.{is_user_of};
+ghost use Rattle.sheet_edits.specs.Verdicts.{is_user_of};
 ghost use Rattle.sheet_edits.specs.Places.{is_given, loses, is_left_by};
 
 use formula_ast::{Formula, Name};

@@ -1,7 +1,7 @@
 ghost use Rattle.std.specs.Prelude.{◌≡◌, [], ◌∷◌, ◌++◌, Ok, Err};
 ghost use Rattle.sheet_rows.specs.declared.edit_fault.EditFault.TheVariants.{Duplicate, Unknown, NotEarlier, NotCorrelatable, AlreadyCorrelated, InUse};
-ghost use Rattle.sheet_edits.specs.Sheets.{verdict_add, verdict_set, verdict_remove};
-ghost use Rattle.sheet_edits.specs.WorkedSheets.{named, std, rect, std_of_five, readings, table, same_as_column, correlation, same_as, sheet, inputs, correlated, more_inputs};
+ghost use Rattle.sheet_edits.specs.Verdicts.{verdict_add, verdict_set, verdict_remove};
+ghost use Rattle.sheet_rows.specs.WorkedSheets.{named, std, rect, std_of_five, readings, table, same_as_column, correlation, same_as, sheet, inputs, correlated, more_inputs};
 
 /// What comes of adding rows to small sheets: A is an input with half a width, B to E are inputs with a standard
 /// deviation, and P is the correlation of B and C.

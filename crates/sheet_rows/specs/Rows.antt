@@ -112,6 +112,9 @@ pub record Sheet : Type 0 where
   -- in their order
   pub rows : List Row
 
+abbrev pub sheet_of : List Row → Sheet
+sheet_of rows = record { rows = rows }
+
 abbrev pub empty_sheet : Sheet
 empty_sheet = record { rows = [] }
 

@@ -1,7 +1,7 @@
 use Rattle.std.proofs.Common.{◌+◌, ◌∷◌, ◌++◌, [], map, drop, sym, ◌∙◌, ap}
 use Rattle.std.proofs.lemmas.List.{append_assoc, append-nil}
 use Rattle.sheet_rows.specs.Rows.{row_of}
-use Rattle.edit_session.proofs.Walking.{left_next, none_left}
+use Rattle.sheet_model.proofs.Walking.{left_next, none_left}
 use Rattle.edit_session.proofs.answering.rows_of.Goals as goal
 
 pub loop-row-init : goal.loop-row-init

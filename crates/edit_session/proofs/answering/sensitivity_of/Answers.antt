@@ -6,15 +6,16 @@ use Rattle.value_cache.specs.Slots.{cells_of}
 use Rattle.answers.specs.declared.command.Query.TheVariants.{Sensitivity as AskSensitivity}
 use Rattle.answers.specs.Replies.{IsRegularAnswer}
 use Rattle.answers.specs.declared.reply.Answer.TheVariants.{Sensitivity}
-use Rattle.edit_session.specs.Replies.{quantities, law_reply, reply_to}
+use Rattle.sheet_model.specs.Quantities.{quantities}
+use Rattle.edit_session.specs.Replies.{law_reply, reply_to}
 use Rattle.edit_session.specs.Sound.{IsSoundAnswer}
 use Rattle.edit_session.specs.Calls.{RepliesWith}
-use Rattle.edit_session.proofs.Names.{there-is_quantity}
-use Rattle.edit_session.proofs.Walking.{quantities_in_order}
-use Rattle.edit_session.proofs.Inputs.{input_there}
+use Rattle.sheet_model.proofs.Names.{there-is_quantity}
+use Rattle.sheet_model.proofs.Walking.{quantities_in_order}
+use Rattle.sheet_model.proofs.Inputs.{input_there}
 use Rattle.edit_session.proofs.Calls.{said, not_asked}
 use Rattle.edit_session.proofs.ReplyLaws.{fine_reply, slopes_fine, slope_said, slope_sound, sensitivity_asked}
-use Rattle.edit_session.proofs.Asked.{name_kept, id_there}
+use Rattle.sheet_model.proofs.KeptSheet.{name_kept, id_there}
 use Rattle.edit_session.proofs.Gradients.{is_found, found_slope, of_gradient, has_number, without_reply, without_holds}
 use Rattle.edit_session.proofs.answering.sensitivity_of.Goals as goal
 

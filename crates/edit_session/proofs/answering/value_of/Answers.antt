@@ -4,13 +4,15 @@ use Rattle.value_cache.specs.Evaluations.{evaluation_of}
 use Rattle.value_cache.proofs.Sound.{values_enclosed}
 use Rattle.answers.specs.declared.command.Query.TheVariants.{Value as AskValue}
 use Rattle.answers.specs.declared.reply.Answer.TheVariants.{Value, ValueFault}
-use Rattle.edit_session.specs.Replies.{quantities, reply_to}
-use Rattle.edit_session.specs.Numbering.{quantities_by}
-use Rattle.edit_session.proofs.Names.{there-is_quantity}
-use Rattle.edit_session.proofs.Walking.{exponents_of_rows, quantities_in_order}
+use Rattle.sheet_model.specs.Quantities.{quantities}
+use Rattle.edit_session.specs.Replies.{reply_to}
+use Rattle.sheet_model.specs.Numbering.{quantities_by}
+use Rattle.sheet_model.proofs.Names.{there-is_quantity}
+use Rattle.sheet_model.proofs.Walking.{exponents_of_rows, quantities_in_order}
 use Rattle.edit_session.proofs.Calls.{said, not_asked}
 use Rattle.edit_session.proofs.ReplyLaws.{fine_reply, value_said, fault_said}
-use Rattle.edit_session.proofs.Asked.{name_kept, id_there, enclosed_cell, fault_within, faulted_cell}
+use Rattle.sheet_model.proofs.KeptSheet.{name_kept, id_there}
+use Rattle.edit_session.proofs.Asked.{enclosed_cell, fault_within, faulted_cell}
 use Rattle.edit_session.proofs.answering.value_of.Goals as goal
 
 pub returns-in_err-numbered-clause-reply : goal.returns-in_err-numbered-clause-reply

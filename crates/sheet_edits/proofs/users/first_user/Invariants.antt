@@ -1,7 +1,7 @@
 use Rattle.std.proofs.Common.{◌≡◌, drop, map}
 use Rattle.std.specs.Prelude.{find}
 use Rattle.sheet_rows.specs.Rows.{row_of}
-use Rattle.sheet_edits.specs.Sheets.{is_user_of}
+use Rattle.sheet_edits.specs.Verdicts.{is_user_of}
 use Rattle.sheet_edits.proofs.users.first_user.Given as goal
 
 abbrev pub invariant-loop-other : goal.invariant-loop-other

@@ -1,19 +1,16 @@
 use Rattle.std.proofs.Common.{◌≡◌, refl, sym, ◌∙◌, ap, subst}
-use Rattle.answers.specs.declared.reply.Reply.TheVariants.{Fine}
-use Rattle.edit_session.specs.Machine.{State, step}
+use Rattle.answers.specs.declared.reply.Reply.TheVariants.{Fine, Mark as MarkRefused}
+use Rattle.edit_session.specs.Machine.{State, step, marked, may_mark}
 use Rattle.edit_session.specs.Live.{state_of}
 use Rattle.edit_session.specs.States.{state_in, state_from}
 use Rattle.edit_session.proofs.Standing.{stepped-standing}
 use Rattle.answers.specs.Commands.{Mark}
 use Rattle.answers.specs.declared.fault.MarkFault.TheVariants.{MarksFull, OutOfMemory as NoMemoryToMark}
-use Rattle.answers.specs.declared.reply.Reply.TheVariants.{Mark as MarkRefused}
-use Rattle.edit_session.specs.Machine.{marked, may_mark}
 use Rattle.indexmap.specs.IndexMap.{insert_entry}
-use Rattle.std.specs.Prelude.{bytes_eq}
+use Rattle.std.specs.Prelude.{bytes_eq, true}
 use Rattle.edit_session.specs.Calls.{Does}
 use Rattle.edit_session.proofs.Steps.{mark_step}
 use Rattle.edit_session.proofs.Calls.{mark_may_be_out, reply_given, reply_refused}
-use Rattle.std.specs.Prelude.{true}
 use Rattle.edit_session.proofs.session.Session.mark.Goals as goal
 
 pub returns-then-not-may_mark : goal.returns-then-not-may_mark

@@ -1,14 +1,12 @@
 use Rattle.std.proofs.Common.{◌≡◌, ◌++◌, ◌∷◌, [], sym, ◌∙◌, ap, ap₂, subst}
 use Rattle.circular_buffer.specs.Buffer.{buffer, keep_last}
-use Rattle.answers.specs.declared.reply.Reply.TheVariants.{Fine}
-use Rattle.edit_session.specs.Machine.{State, step}
+use Rattle.answers.specs.declared.reply.Reply.TheVariants.{Fine, Mark as MarkRefused}
+use Rattle.edit_session.specs.Machine.{State, step, restored}
 use Rattle.edit_session.specs.Live.{state_of}
 use Rattle.edit_session.specs.States.{state_in, state_from}
 use Rattle.edit_session.proofs.Standing.{stepped-standing}
 use Rattle.answers.specs.Commands.{Restore}
 use Rattle.answers.specs.declared.fault.MarkFault.TheVariants.{NoMark, OutOfMemory as NoMemoryToMark}
-use Rattle.answers.specs.declared.reply.Reply.TheVariants.{Mark as MarkRefused}
-use Rattle.edit_session.specs.Machine.{restored}
 use Rattle.edit_session.specs.Calls.{Does}
 use Rattle.edit_session.proofs.Calls.{reply_given, reply_refused}
 use Rattle.edit_session.proofs.Steps.{Pushed, restore_step}

@@ -1,7 +1,8 @@
 use Rattle.std.proofs.Common.{◌≡◌, true, false, nat_le, is_some, sym, ap, ◌∙◌, length, Ok}
 use Rattle.std.proofs.lemmas.List.{length-map}
 use Rattle.sheet_rows.specs.Rows.{row_of, name_of}
-use Rattle.sheet_edits.specs.Sheets.{row_limit, added, verdict_add}
+use Rattle.sheet_rows.specs.Sheets.{row_limit}
+use Rattle.sheet_edits.specs.Verdicts.{added, verdict_add}
 use Rattle.sheet_edits.specs.Places.{place_of}
 use Rattle.sheet_edits.proofs.Verdicts.{not_full, add_duplicate, add_by_names, names_no_duplicate, names_not_full, new_name}
 use Rattle.sheet_edits.proofs.Keeping.{add_stands, verdict_stands, checked_verdict}

@@ -3,7 +3,7 @@ use Rattle.std.specs.Prelude.{find}
 use Rattle.std.specs.Option.{option_map}
 use Rattle.sheet_rows.specs.Rows.{row_of, name_of}
 use Rattle.sheet_rows.specs.declared.edit_fault.EditFault.TheVariants.{InUse}
-use Rattle.sheet_edits.specs.Sheets.{set_row, unless}
+use Rattle.sheet_edits.specs.Verdicts.{set_row, unless}
 use Rattle.sheet_edits.specs.Places.{is_left_by}
 use Rattle.sheet_edits.proofs.Left.{none_left, left_by_name}
 use Rattle.sheet_edits.proofs.sheet.Sheet.check_left.Goals as goal

@@ -1,7 +1,7 @@
 use Rattle.std.proofs.Common.{subst, sym}
 use Rattle.sheet_rows.specs.Rows.{row_of}
 use Rattle.sheet_rows.specs.declared.edit_fault.EditFault.TheVariants.{NotCorrelatable, AlreadyCorrelated}
-use Rattle.sheet_edits.specs.Sheets.{unless, first_correlated}
+use Rattle.sheet_edits.specs.Verdicts.{unless, first_correlated}
 use Rattle.sheet_edits.specs.Places.{IsChecked, first_not_correlatable_with}
 use Rattle.sheet_edits.proofs.sheet.Sheet.check_names.Goals as goal
 

@@ -3,7 +3,7 @@ use Rattle.std.specs.Prelude.{find}
 use Rattle.std.specs.Option.{option_map}
 use Rattle.sheet_rows.specs.Rows.{row_of, name_of}
 use Rattle.sheet_rows.specs.declared.edit_fault.EditFault.TheVariants.{InUse}
-use Rattle.sheet_edits.specs.Sheets.{is_user_of, removed, unless}
+use Rattle.sheet_edits.specs.Verdicts.{is_user_of, removed, unless}
 use Rattle.sheet_edits.proofs.Keeping.{remove_stands}
 use Rattle.sheet_edits.proofs.Verdicts.{remove_by_users, never_nowhere}
 use Rattle.sheet_edits.proofs.sheet.Sheet.check_removed.Goals as goal

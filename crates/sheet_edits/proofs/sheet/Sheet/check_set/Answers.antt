@@ -1,7 +1,8 @@
 use Rattle.std.proofs.Common.{◌∙◌, Some, ap, subst, sym, rules}
 use Rattle.std.specs.Prelude.{find}
 use Rattle.sheet_rows.specs.Rows.{row_of, name_of}
-use Rattle.sheet_edits.specs.Sheets.{is_named, set_row, unless_left, verdict_set}
+use Rattle.sheet_rows.specs.Sheets.{is_named}
+use Rattle.sheet_edits.specs.Verdicts.{set_row, unless_left, verdict_set}
 use Rattle.sheet_edits.specs.Places.{IsVerdict}
 use Rattle.sheet_edits.proofs.Verdicts.{never_nowhere, set_by_names}
 use Rattle.sheet_edits.proofs.Keeping.{set_stands, verdict_stands}

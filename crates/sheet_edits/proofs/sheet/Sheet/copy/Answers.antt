@@ -1,6 +1,6 @@
 use Rattle.std.proofs.Common.{rules, List, ◌∙◌, ap, sym, subst}
 use Rattle.sheet_rows.specs.Rows.{Row, row_of}
-use Rattle.sheet_edits.specs.Standing.{IsStanding}
+use Rattle.sheet_rows.specs.Sheets.{IsStanding}
 use Rattle.sheet_edits.proofs.Entries.{of_rows, copied_rows, copied_names}
 use Rattle.sheet_edits.proofs.sheet.Sheet.copy.Goals as goal
 

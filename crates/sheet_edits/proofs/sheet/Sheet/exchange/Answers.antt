@@ -2,8 +2,7 @@ use Rattle.std.proofs.Common.{List, ◌∙◌, ap, sym, subst, refl}
 use Rattle.std.specs.Prelude.{slice_get}
 use Rattle.std.specs.Option.{option_map}
 use Rattle.sheet_rows.specs.Rows.{Row, Sheet, row_of, name_of}
-use Rattle.sheet_edits.specs.Sheets.{is_named}
-use Rattle.sheet_edits.specs.Standing.{IsStanding}
+use Rattle.sheet_rows.specs.Sheets.{is_named, IsStanding}
 use Rattle.sheet_edits.specs.Places.{code_name}
 use Rattle.sheet_edits.proofs.Positions.{first_at}
 use Rattle.sheet_edits.proofs.Entries.{of_rows, exchanged_rows, exchanged_names, value_at}

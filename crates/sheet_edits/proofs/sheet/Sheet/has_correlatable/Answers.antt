@@ -1,6 +1,6 @@
 use Rattle.std.proofs.Common.{◌∙◌, ap, sym}
 use Rattle.sheet_rows.specs.Rows.{is_correlatable}
-use Rattle.sheet_edits.proofs.Named.{holds, has_found}
+use Rattle.sheet_rows.proofs.Named.{holds, has_found}
 use Rattle.sheet_edits.proofs.sheet.Sheet.has_correlatable.Goals as goal
 
 pub returns-in-Some : goal.returns-in-Some

@@ -1,7 +1,7 @@
 use Rattle.std.proofs.Common.{◌∙◌, ap, sym}
 use Rattle.sheet_rows.specs.Rows.{gives_input, row_part}
-use Rattle.sheet_edits.proofs.Named.{holds}
-use Rattle.sheet_edits.proofs.Verdicts.{input_found}
+use Rattle.sheet_rows.proofs.Named.{holds}
+use Rattle.sheet_rows.proofs.Quantities.{input_found}
 use Rattle.sheet_edits.proofs.sheet.Sheet.has_input.Goals as goal
 
 pub returns-in-Some : goal.returns-in-Some

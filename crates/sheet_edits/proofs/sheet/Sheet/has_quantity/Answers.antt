@@ -1,7 +1,7 @@
 use Rattle.std.proofs.Common.{◌∙◌, ap, sym}
 use Rattle.sheet_rows.specs.Rows.{gives, row_part}
-use Rattle.sheet_edits.proofs.Named.{holds}
-use Rattle.sheet_edits.proofs.Verdicts.{quantity_found}
+use Rattle.sheet_rows.proofs.Named.{holds}
+use Rattle.sheet_rows.proofs.Quantities.{quantity_found}
 use Rattle.sheet_edits.proofs.sheet.Sheet.has_quantity.Goals as goal
 
 pub returns-in-Some : goal.returns-in-Some

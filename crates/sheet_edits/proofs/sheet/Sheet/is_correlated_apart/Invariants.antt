@@ -1,6 +1,6 @@
 use Rattle.std.proofs.Common.{◌≡◌, drop, map}
 use Rattle.sheet_rows.specs.Rows.{row_of}
-use Rattle.sheet_edits.specs.Sheets.{is_correlated_apart}
+use Rattle.sheet_rows.specs.Sheets.{is_correlated_apart}
 use Rattle.sheet_edits.proofs.sheet.Sheet.is_correlated_apart.Given as goal
 
 abbrev pub invariant-loop-other : goal.invariant-loop-other

@@ -1,6 +1,6 @@
 use Rattle.std.proofs.Common.{List, ◌∷◌, [], ◌++◌, ◌∙◌, ap, sym, subst}
 use Rattle.sheet_rows.specs.Rows.{Row, Sheet, row_of}
-use Rattle.sheet_edits.specs.Standing.{IsStanding}
+use Rattle.sheet_rows.specs.Sheets.{IsStanding}
 use Rattle.sheet_edits.proofs.Entries.{of_rows, place, put_rows, put_names}
 use Rattle.sheet_edits.proofs.sheet.Sheet.push.Goals as goal
 

@@ -1,5 +1,5 @@
 use Rattle.std.proofs.Common.{◌∙◌, sym}
-use Rattle.sheet_edits.specs.Sheets.{is_named}
+use Rattle.sheet_rows.specs.Sheets.{is_named}
 use Rattle.sheet_edits.proofs.Verdicts.{find_nowhere, find_place}
 use Rattle.sheet_edits.proofs.sheet.Sheet.row_named.Goals as goal
 

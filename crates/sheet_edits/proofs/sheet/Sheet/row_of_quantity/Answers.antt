@@ -1,6 +1,6 @@
 use Rattle.std.proofs.Common.{◌∙◌, sym}
 use Rattle.sheet_rows.specs.Rows.{row_part}
-use Rattle.sheet_edits.specs.Sheets.{is_named}
+use Rattle.sheet_rows.specs.Sheets.{is_named}
 use Rattle.sheet_edits.proofs.Verdicts.{find_place, find_nowhere}
 use Rattle.sheet_edits.proofs.sheet.Sheet.row_of_quantity.Goals as goal
 

@@ -1,7 +1,7 @@
 use Rattle.std.proofs.Common.{Ok, List, ◌∙◌, ap, sym, subst}
 use Rattle.sheet_rows.specs.Rows.{Row}
-use Rattle.sheet_edits.specs.Sheets.{Verdict, is_named}
-use Rattle.sheet_edits.specs.Standing.{IsStanding}
+use Rattle.sheet_edits.specs.Verdicts.{Verdict}
+use Rattle.sheet_rows.specs.Sheets.{is_named, IsStanding}
 use Rattle.sheet_edits.proofs.Positions.{first_at}
 use Rattle.sheet_edits.proofs.Entries.{of_rows}
 use Rattle.sheet_edits.proofs.Verdicts.{remove_unknown, rows_removed}

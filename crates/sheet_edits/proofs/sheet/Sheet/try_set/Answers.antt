@@ -1,6 +1,6 @@
 use Rattle.std.proofs.Common.{◌≡◌, Some, ◌∙◌, ap, sym, true≢false}
 use Rattle.sheet_rows.specs.Rows.{row_of, name_of}
-use Rattle.sheet_edits.specs.Sheets.{is_named}
+use Rattle.sheet_rows.specs.Sheets.{is_named}
 use Rattle.sheet_edits.specs.Places.{place_of}
 use Rattle.sheet_edits.proofs.Verdicts.{set_unknown, there_at}
 use Rattle.sheet_edits.proofs.sheet.Sheet.try_set.Goals as goal

@@ -1,7 +1,7 @@
 use Rattle.std.proofs.Common.{List, ◌∙◌, ap, sym, subst}
 use Rattle.std.specs.Prelude.{slice_get, remove}
 use Rattle.sheet_rows.specs.Rows.{Row, Sheet, row_of}
-use Rattle.sheet_edits.specs.Standing.{IsStanding}
+use Rattle.sheet_rows.specs.Sheets.{IsStanding}
 use Rattle.sheet_edits.proofs.Entries.{of_rows, taken, taken_names, entry_at}
 use Rattle.sheet_edits.proofs.sheet.Sheet.withdraw.Goals as goal
 

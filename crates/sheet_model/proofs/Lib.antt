@@ -1,0 +1,12 @@
+pub mod Names
+pub mod Numbers
+pub mod Kept
+pub mod Formulas
+pub mod Fresh
+pub mod Columns
+pub mod Walking
+pub mod KeptSheet
+pub mod Inputs
+pub mod Counts
+pub mod Members
+pub mod Parted

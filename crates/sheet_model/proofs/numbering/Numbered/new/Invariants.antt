@@ -1,0 +1,8 @@
+use Rattle.std.proofs.Common.{map, drop}
+use Rattle.sheet_rows.specs.Rows.{row_of}
+use Rattle.sheet_model.specs.Numbering.{IsWalked}
+use Rattle.sheet_model.proofs.numbering.Numbered.new.Given as goal
+
+abbrev pub invariant-loop-row : goal.invariant-loop-row
+invariant-loop-row l =
+    IsWalked (map (λ row. row_of row.value) l.fn.rows) (map (λ row. row_of row.value) (drop l.row-index l.row-items)) l.numbered

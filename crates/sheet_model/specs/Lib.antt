@@ -1,0 +1,6 @@
+-- The definitions, in the order in which to read them.
+pub mod Quantities
+pub mod Groups
+pub mod WorkedGroups
+pub mod Walks
+pub mod Numbering
