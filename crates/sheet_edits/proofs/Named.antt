@@ -5,17 +5,20 @@ use Rattle.std.proofs.Math.Bool.{or-false}
 use Rattle.sheet_rows.specs.Rows.{Row, name_of}
 use Rattle.sheet_rows.specs.Sheets.{is_named, is_among, are_named_once}
 use Rattle.sheet_rows.proofs.Tests.{same_name}
-use Rattle.sheet_rows.proofs.Named.{once_head, once_tail, has, none_after}
+use Rattle.sheet_rows.proofs.Named.{once_head, once_tail, has as has_named, none_after}
 use Rattle.sheet_edits.specs.Verdicts.{rows_with, rows_without}
 
 module _ (p : Row → Bool) (n : List ℕ) where
+  abbrev has : List Row → Bool
+  has rows = has_named p n rows
+
   -- ---- with another row in the place of that of its name
   set_by : (row r : Row) (rs : List Row) (t u : Bool) → is_named (name_of row) r ≡ t → is_named n row ≡ u → is_among rs (name_of r) ≡ false
       → (is_among rs (name_of row) ≡ true → has (rows_with row rs) ≡ cond u (p row) (has rs)) → (t || is_among rs (name_of row)) ≡ true
       → has (cond t (row ∷ rs) (r ∷ rows_with row rs)) ≡ cond u (p row) (has (r ∷ rs))
   set_by row r rs true true e f new rest there =
       let same : is_named n r ≡ true = ap (λ m. bytes_eq m (name_of r)) (same_name n (name_of row) f) ∙ e in
-      ap (λ b. (b && p row) || has rs) f ∙ ap (λ b. p row || b) (none_after r rs same new) ∙ or-false (p row)
+      ap (λ b. (b && p row) || has rs) f ∙ ap (λ b. p row || b) (none_after p n r rs same new) ∙ or-false (p row)
   set_by row r rs true false e f new rest there =
       let apart : is_named n r ≡ false = ap (bytes_eq n) (sym (same_name (name_of row) (name_of r) e)) ∙ f in
       ap (λ b. (b && p row) || has rs) f ∙ sym (ap (λ b. (b && p r) || has rs) apart)

@@ -19,6 +19,7 @@ use Rattle.std.proofs.Math.Bool.{or-false}
 use Rattle.std.proofs.lemmas.Bool.{lt-leb, and_right, or_parts}
 use Rattle.sheet_edits.proofs.Conditions.{unless_ok}
 use Rattle.sheet_rows.proofs.Tests.{none_all, all_none, same_name, named_itself}
+use Rattle.sheet_rows.proofs.Quantities.{quantity_named}
 use Rattle.sheet_rows.proofs.Named.{holds, has_none, has_found, has_before, has_added}
 use Rattle.sheet_edits.proofs.Named.{has_set}
 use Rattle.sheet_edits.proofs.Correlated.{apart_added, apart_set, correlatable_allowed, allowed_correlatable, apart_allowed, allowed_apart}
