@@ -1,5 +1,7 @@
 -- Small groups and gradients of the inputs 1 and 2, by which the definitions can be read.
-use Rattle.std.specs.Prelude.{ℕ, [], ◌∷◌, ℤ, pos, negsuc}
+use Rattle.std.specs.Prelude.{ℕ, List, [], ◌∷◌, ℤ, pos, negsuc}
+use Rattle.exact_fraction.specs.Number.{of_ℤ}
+use Rattle.exact_law.specs.Model.{Row, Input, Formula, Num, Key, Mul}
 use Rattle.decimal18.specs.Bound.{Bound, scaled}
 use Rattle.fixed_interval.specs.Interval.{point_span}
 use Rattle.type_b.specs.declared.shape.Shape.TheVariants.{Std}
@@ -14,6 +16,10 @@ whole n = scaled (pos n) 0
 -- the input 1 alone
 abbrev pub single : ℕ → Group ℕ
 single u = Single 1 (Std (whole u)) Inf
+
+-- the same by what states no uncertainty
+abbrev pub below : Group ℕ
+below = Single 1 (Std (scaled (negsuc 0) 0)) Inf
 
 -- its variance is out of the range of bounds
 abbrev pub great : Group ℕ
@@ -41,3 +47,19 @@ first_against = (1, point_span (scaled (negsuc 0) 0)) ∷ []
 
 abbrev pub both_of : ℤ → ℤ → Gradient
 both_of a b = (1, point_span (scaled a 0)) ∷ (2, point_span (scaled b 0)) ∷ []
+
+-- ---- models
+-- the input X of 5, which is 1, and the multiple of X under another number
+abbrev pub given : Row ℕ
+given = record { key = 1; body = Input (of_ℤ (pos 5)) }
+
+abbrev pub multiple : ℕ → ℕ → Row ℕ
+multiple n factor = record { key = n; body = Formula (Mul (Num (of_ℤ (pos factor))) (Key 1)) }
+
+-- A = 2 X and B = 3 X, which are 2 and 3
+abbrev pub standard : List (Row ℕ)
+standard = given ∷ multiple 2 2 ∷ multiple 3 3 ∷ []
+
+-- two quantities under one key
+abbrev pub one_key : List (Row ℕ)
+one_key = given ∷ multiple 1 2 ∷ []

@@ -14,7 +14,10 @@ pub use covariances::covariance;
 pub use gradient::Gradient;
 pub use group::{Group, member_variance};
 pub use group_list::GroupList;
-pub use laws::{spans_enclose_the_law, worked_covariances, worked_variances};
+pub use laws::{
+    spans_enclose_the_law, worked_costs, worked_covariances, worked_groups_of_models,
+    worked_renaming, worked_standard, worked_variances,
+};
 pub use model_laws::{
     covariances_are_enclosed, groups_have_the_inputs, parts_are_enclosed, renaming_changes_no_span,
     variances_are_enclosed,

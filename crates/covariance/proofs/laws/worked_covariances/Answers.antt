@@ -36,3 +36,11 @@ returns-clause-nothing c = refl
 pub returns-clause-either_order : goal.returns-clause-either_order
 unfolding lesser greater group_variance_span group_covariance_span holds_zero outward min_ℚ max_ℚ value_of up down cut_off is_in_range ◌+ℚ◌ ◌*ℚ◌ inv_ℚ neg_ℚ is_at_most_ℚ floor_ℚ floor is_at_most ◌⊕◌ ◌⊗◌ inverse fraction.negated total below joint /_rec₂ /_rec
 returns-clause-either_order c = refl
+
+pub returns-clause-only_first : goal.returns-clause-only_first
+unfolding lesser greater group_variance_span group_covariance_span holds_zero outward min_ℚ max_ℚ value_of up down cut_off is_in_range ◌+ℚ◌ ◌*ℚ◌ inv_ℚ neg_ℚ is_at_most_ℚ floor_ℚ floor is_at_most ◌⊕◌ ◌⊗◌ inverse fraction.negated total below joint /_rec₂ /_rec
+returns-clause-only_first c = refl
+
+pub returns-clause-only_second : goal.returns-clause-only_second
+unfolding lesser greater group_variance_span group_covariance_span holds_zero outward min_ℚ max_ℚ value_of up down cut_off is_in_range ◌+ℚ◌ ◌*ℚ◌ inv_ℚ neg_ℚ is_at_most_ℚ floor_ℚ floor is_at_most ◌⊕◌ ◌⊗◌ inverse fraction.negated total below joint /_rec₂ /_rec
+returns-clause-only_second c = refl

@@ -44,3 +44,7 @@ returns-clause-met c = refl
 pub returns-clause-left : goal.returns-clause-left
 unfolding lesser greater group_variance_span group_covariance_span holds_zero outward min_ℚ max_ℚ value_of up down cut_off is_in_range ◌+ℚ◌ ◌*ℚ◌ inv_ℚ neg_ℚ is_at_most_ℚ floor_ℚ floor is_at_most ◌⊕◌ ◌⊗◌ inverse fraction.negated total below joint /_rec₂ /_rec
 returns-clause-left c = refl
+
+pub returns-clause-partner : goal.returns-clause-partner
+unfolding lesser greater group_variance_span group_covariance_span holds_zero outward min_ℚ max_ℚ value_of up down cut_off is_in_range ◌+ℚ◌ ◌*ℚ◌ inv_ℚ neg_ℚ is_at_most_ℚ floor_ℚ floor is_at_most ◌⊕◌ ◌⊗◌ inverse fraction.negated total below joint /_rec₂ /_rec
+returns-clause-partner c = refl
