@@ -1,8 +1,9 @@
 -- The parts of groups: what a loop over groups finds, and what each part says of its group.
-use Rattle.std.specs.Prelude.{◌≡◌, Bool, true, false, if◌then◌else◌, List, [], ◌∷◌, map, filter, Option, None, Some, refl}
+use Rattle.std.specs.Prelude.{◌≡◌, ◌≤◌, Bool, true, false, if◌then◌else◌, List, [], ◌∷◌, map, filter, length, sum_by, Option, None, Some, refl}
 use Rattle.std.specs.Option.{option_and_then}
-use Rattle.std.proofs.Common.{sym, ◌∙◌, ap, ap₂, subst}
+use Rattle.std.proofs.Common.{sym, ◌∙◌, ap, ap₂, subst, arith}
 use Rattle.std.proofs.lemmas.Option.{same_Some, none-some}
+use Rattle.std.proofs.lemmas.List.Sums.{sum_by-cons}
 use Rattle.fixed_interval.specs.Interval.{Interval, sum_span}
 use Rattle.fixed_interval.specs.Sums.{both, sum_on, sum_of}
 use Rattle.fixed_interval.proofs.Sums.{sum_on-none}
@@ -10,6 +11,8 @@ use Rattle.type_b.specs.Shapes.{IsDegrees}
 use Rattle.covariance.specs.Gradients.{Spans}
 use Rattle.covariance.specs.Groups.{Group}
 use Rattle.covariance.specs.Variances.{group_variance_span, combined_variance_span, meets}
+use Rattle.covariance.specs.Costs.{pairs, pairs_of}
+use Rattle.covariance.proofs.Counting.{meets_pair}
 use Rattle.covariance.proofs.NotNegative.{group_variance-from_zero, some-from_zero}
 use Rattle.eff_dof.specs.declared.part.Part.{Part}
 use Rattle.eff_dof.specs.Parts.{IsPart, AreParts}
@@ -108,3 +111,21 @@ variance-combined y groups = by (parts_of y groups) refl where
   by : (o : Option (List Part)) → parts_of y groups ≡ o → option_and_then variance_span o ≡ combined_variance_span y groups
   by None e = sym (sum-missing y (filter (meets y) groups) e)
   by (Some ps) e = ap sum_of (sym (their_variances y (filter (meets y) groups) ps (parts_beside y (filter (meets y) groups) ps e)))
+
+-- ---- how many there are: a group that meets the cone has a member
+met_pairs : {K : Type 0} (y : Spans K) (gs : List (Group K)) → AllGroups (λ g. 1 ≤ pairs g) (filter (meets y) gs)
+met_pairs y [] = tt
+met_pairs y (g ∷ gs) = by (meets y g) refl (met_pairs y gs) where
+  by : (b : Bool) → meets y g ≡ b → AllGroups (λ h. 1 ≤ pairs h) (filter (meets y) gs)
+      → AllGroups (λ h. 1 ≤ pairs h) (if b then g ∷ filter (meets y) gs else filter (meets y) gs)
+  by true e rest = (meets_pair y g e, rest)
+  by false e rest = rest
+
+few_beside : {K : Type 0} (y : Spans K) (gs : List (Group K)) (ps : List Part) → AllGroups (λ g. 1 ≤ pairs g) gs → ArePartsOf y gs ps → length ps ≤ sum_by pairs gs
+few_beside y [] [] h k = omega arith
+few_beside y [] (p ∷ ps) h k = absurd k
+few_beside y (g ∷ gs) [] h k = omega arith
+few_beside y (g ∷ gs) (p ∷ ps) h k = omega (arith, h.0, few_beside y gs ps h.1 k.1, sum_by-cons pairs g gs)
+
+pub parts-few : {K : Type 0} (y : Spans K) (gs : List (Group K)) (ps : List Part) → parts_of y gs ≡ Some ps → length ps ≤ pairs_of (meets y) gs
+parts-few y gs ps e = few_beside y (filter (meets y) gs) ps (met_pairs y gs) (parts_beside y (filter (meets y) gs) ps e)

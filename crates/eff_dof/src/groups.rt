@@ -1,9 +1,11 @@
-ghost use Rattle.std.specs.Prelude.{◌≡◌, ℕ, [], ◌∷◌, map, None, Some, Ok, Err, IfOk, OnOk};
+ghost use Rattle.std.specs.Prelude.{◌≡◌, ◌+◌, ◌*◌, ◌≤◌, ℕ, [], ◌∷◌, map, None, Some, Ok, Err, IfOk, OnOk};
 ghost use Rattle.std.specs.Option.{ok_or};
 ghost use Rattle.exact_fraction.specs.Number.{ℚ};
 ghost use Rattle.table_g2.specs.Known.{Allows, AreDegrees};
 ghost use Rattle.covariance.specs.Gradients.{AllEnclose, found_at};
 ghost use Rattle.covariance.specs.Groups.{AreRegular, IsRegular, exact_group, group_of};
+ghost use Rattle.covariance.specs.Variances.{meets};
+ghost use Rattle.covariance.specs.Costs.{pairs, pairs_of};
 ghost use Rattle.eff_dof.specs.Parts.{exact_degrees};
 ghost use Rattle.eff_dof.specs.GroupParts.{degrees_of_group, HasDegrees, HaveDegrees, part_of, put_before, parts_of, known_degrees_of, share_by};
 
@@ -36,6 +38,7 @@ fn part_of<L: Ledger>(group: &Group, y: &Gradient, steps: &mut Steps<L>) -> Resu
     requires regular { IsRegular (group_of group.now) }
     requires degrees { HasDegrees (group_of group.now) }
     ensures part { result ≡ ok_or (part_of (found_at y.now) (group_of group.now)) (record {}) }
+    ensures ticks { steps.new ≤ steps.old + (14 * pairs (group_of group.now) + 1) }
 {
     let variance = group_variance(group, y, steps)?;
     let dof = degrees_of_group(group);
@@ -53,6 +56,7 @@ fn put_part<L: Ledger>(
     requires degrees { HasDegrees (group_of group.now) }
     ensures ok { OnOk result (put_before parts.old.items (parts_of (found_at y.now) (group_of group.now ∷ [])) ≡ Some parts.new.items) }
     ensures overflow { result ≡ Err DegreesFault.Overflow → parts_of (found_at y.now) (group_of group.now ∷ []) ≡ None }
+    ensures ticks { steps.new ≤ steps.old + 16 * pairs_of (meets (found_at y.now)) (group_of group.now ∷ []) }
 {
     if !meets(group, y) {
         return Ok(());
@@ -77,6 +81,7 @@ fn parts_of<L: Ledger>(
     requires degrees { HaveDegrees (map group_of groups.now) }
     ensures ok { IfOk result (λ parts. parts_of (found_at y.now) (map group_of groups.now) ≡ Some parts.items) }
     ensures overflow { result ≡ Err DegreesFault.Overflow → parts_of (found_at y.now) (map group_of groups.now) ≡ None }
+    ensures ticks { steps.new ≤ steps.old + 16 * pairs_of (meets (found_at y.now)) (map group_of groups.now) }
 {
     let Ok(mut parts) = Vec::with_capacity(alloc, groups.len()) else {
         return Err(DegreesFault::OutOfMemory);
@@ -91,7 +96,7 @@ fn parts_of<L: Ledger>(
 
 /// What is known of the effective degrees of freedom (JCGM 100:2008, G.4.1) of a quantity with this gradient: those of
 /// [`effective`] for the parts of the groups that have a member in the gradient. It takes memory for one list, before
-/// the first part is found.
+/// the first part is found, and ticks at most 22 m² times for a group of m members that has one in the gradient.
 ///
 /// # Errors
 ///
@@ -110,6 +115,7 @@ pub fn degrees<L: Ledger>(
     ensures holds { (u : ℕ → ℚ) → AllEnclose (found_at y.now) u
         → IfOk result (λ nu. Allows nu (exact_degrees (map (share_by u) (map exact_group (map group_of groups.now))))) }
     ensures degrees { IfOk result AreDegrees }
+    ensures ticks { steps.new ≤ steps.old + 22 * pairs_of (meets (found_at y.now)) (map group_of groups.now) }
 {
     let parts = match parts_of(alloc, groups, y, steps) {
         Ok(parts) => parts,

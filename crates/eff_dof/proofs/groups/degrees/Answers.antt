@@ -1,12 +1,12 @@
-use Rattle.std.specs.Prelude.{◌≡◌, map, Result, Err}
-use Rattle.std.proofs.Common.{sym, ◌∙◌, ap, subst}
+use Rattle.std.specs.Prelude.{◌≡◌, map, length, Result, Err}
+use Rattle.std.proofs.Common.{sym, ◌∙◌, ap, subst, arith}
 use Rattle.table_g2.specs.declared.known.Nu.{Nu}
 use Rattle.covariance.specs.Gradients.{found_at}
 use Rattle.covariance.specs.Groups.{group_of}
 use Rattle.eff_dof.specs.declared.fault.DegreesFault.{DegreesFault}
 use Rattle.eff_dof.specs.Degrees.{known_degrees}
 use Rattle.eff_dof.specs.Parts.{AreParts}
-use Rattle.eff_dof.proofs.PartsOfGroups.{are_parts}
+use Rattle.eff_dof.proofs.PartsOfGroups.{are_parts, parts-few}
 use Rattle.eff_dof.proofs.GroupShares.{known_missing, known_there}
 use Rattle.eff_dof.proofs.OfModels.{degrees_for_slopes}
 use Rattle.eff_dof.proofs.groups.degrees.Goals as goal
@@ -37,3 +37,23 @@ returns-clause-exact g c =
 pub returns-clause-holds : goal.returns-clause-holds
 returns-clause-holds g c =
     degrees_for_slopes (found_at c.args.y.now) (map group_of c.args.groups.now) c.requires.regular c.requires.degrees c.in-Ok-effective.nu (returns-clause-exact g c)
+
+pub returns-in_default-clause-ticks : goal.returns-in_default-clause-ticks
+returns-in_default-clause-ticks g c =
+    omega (
+      arith,
+      c.in-Ok.ensures.ticks,
+      c.in_default.ensures.ticks,
+      parts-few (found_at c.args.y.now) (map group_of c.args.groups.now) c.in-Ok.parts.items c.in-Ok.ensures.ok,
+      ap length c.as_slice.ensures.value,
+    )
+
+pub returns-clause-ticks : goal.returns-clause-ticks
+returns-clause-ticks g c =
+    omega (
+      arith,
+      c.in-Ok.ensures.ticks,
+      c.in-Ok-effective.ensures.ticks,
+      parts-few (found_at c.args.y.now) (map group_of c.args.groups.now) c.in-Ok.parts.items c.in-Ok.ensures.ok,
+      ap length c.as_slice.ensures.value,
+    )
