@@ -30,7 +30,7 @@ absent_by : (n : List ℕ) (ms : List (List ℕ)) (t : Bool) → (count n ms ≡
 absent_by n ms true rest e = absurd (omega (arith, e))
 absent_by n ms false rest e = rest (omega (arith, e))
 
-absent_counted : (n : List ℕ) (ms : List (List ℕ)) → count n ms ≡ 0 → absent bytes_eq n ms ≡ true
+pub absent_counted : (n : List ℕ) (ms : List (List ℕ)) → count n ms ≡ 0 → absent bytes_eq n ms ≡ true
 unfolding absent
 absent_counted n [] e = refl
 absent_counted n (m ∷ ms) e = absent_by n ms (bytes_eq m n) (absent_counted n ms) e

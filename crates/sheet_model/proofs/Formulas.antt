@@ -1,5 +1,5 @@
 -- Formulas by names, and the numbers for which their names stand.
-use Rattle.std.specs.Prelude.{◌≡◌, ℕ, Bool, true, false, ◌||◌, not, if◌then◌else◌, is_some, bytes_eq, List, [], ◌∷◌, map, length, find, Option, Some, None, refl}
+use Rattle.std.specs.Prelude.{◌≡◌, ℕ, Bool, true, false, ◌||◌, not, if◌then◌else◌, is_some, bytes_eq, List, [], ◌∷◌, map, length, find, Some, None, refl}
 use Rattle.std.specs.List.{list_any, list_all}
 use Rattle.std.specs.Option.{unwrap_or}
 use Rattle.std.proofs.Common.{sym, ◌∙◌, ap, ap₂, subst}

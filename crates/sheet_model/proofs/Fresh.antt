@@ -78,7 +78,7 @@ fresh_named qs (q ∷ more) h k =
 
 -- ---- a row with a new name
 -- what holds of each of the names holds of all
-all_of : (p : List ℕ → Bool) (ns : List (List ℕ)) → ((n : List ℕ) → list_any (bytes_eq n) ns ≡ true → p n ≡ true) → list_all p ns ≡ true
+pub all_of : (p : List ℕ → Bool) (ns : List (List ℕ)) → ((n : List ℕ) → list_any (bytes_eq n) ns ≡ true → p n ≡ true) → list_all p ns ≡ true
 all_of p [] h = refl
 all_of p (n ∷ ns) h =
     and_from (p n) (list_all p ns) (h n (ap (λ b. b || list_any (bytes_eq n) ns) (named_itself n)))

@@ -11,9 +11,9 @@ use Rattle.decimal18.specs.Bound.{value_of}
 use Rattle.type_a.specs.Tables.{Table}
 use Rattle.type_a.specs.Statistics.{exact_mean}
 use Rattle.sheet_rows.specs.Rows.{Row, Given, Readings, Joint, Correlation, Formula, Sheet, gives, gives_input}
-use Rattle.sheet_rows.specs.Sheets.{is_input_in, is_quantity_in, has_input, IsStanding}
+use Rattle.sheet_rows.specs.Sheets.{is_input_in, has_input, IsStanding}
 use Rattle.sheet_rows.proofs.Quantities.{quantity_any, input_gives}
-use Rattle.value_cache.specs.Quantities.{Body, Input, Function, Column, Quantity, body_of, is_there}
+use Rattle.value_cache.specs.Quantities.{Body, Input, Function, Column, body_of, is_there}
 use Rattle.value_cache.specs.Evaluable.{AreInOrder}
 use Rattle.value_cache.specs.Model.{model_of}
 use Rattle.value_cache.proofs.Evaluable.{is_there-added}
@@ -74,7 +74,7 @@ inputs_there rows n e = there-is_quantity rows n ∙ quantity_any rows n ∙ any
 
 -- ---- each is found under its name
 -- what is among the quantities before is none of those that follow
-none_again : (done qs : Quantities) (n : List ℕ) → AreInOrder bytes_eq done qs → is_there bytes_eq done n ≡ true → is_there bytes_eq qs n ≡ false
+pub none_again : (done qs : Quantities) (n : List ℕ) → AreInOrder bytes_eq done qs → is_there bytes_eq done n ≡ true → is_there bytes_eq qs n ≡ false
 none_again done [] n h e = refl
 none_again done (q ∷ qs) n h e =
     by (bytes_eq q.key n) refl (none_again (done ++ q ∷ []) qs n h.2 (is_there-added bytes_eq done q n ∙ ap (λ b. if b then true else bytes_eq q.key n) e)) where

@@ -1,6 +1,6 @@
 -- The quantities that the code keeps, with one more.
 use Rattle.std.specs.Prelude.{◌≡◌, ℕ, Bool, true, false, ◌||◌, not, if◌then◌else◌, is_some, nat_eq, bytes_eq, List, [], ◌∷◌, ◌++◌, map, length, insert, Option, Some, None, Result, Ok, Err, OnOk, refl}
-use Rattle.std.specs.List.{AllZip, list_any}
+use Rattle.std.specs.List.{AllZip}
 use Rattle.std.proofs.Common.{sym, ◌∙◌, ap, ap₂, subst, arith}
 use Rattle.std.proofs.lemmas.Bool.{true≢false, or_left, or_right}
 use Rattle.std.proofs.lemmas.Bool.Decides.{nat_tests}

@@ -1,5 +1,5 @@
 -- What the code keeps of a sheet by numbers, while cells are found, is what the definitions say by names.
-use Rattle.std.specs.Prelude.{◌≡◌, ℕ, zero, suc, ◌<◌, Bool, true, false, ◌||◌, if◌then◌else◌, is_some, bytes_eq, nat_eq, List, [], ◌∷◌, map, length, slice_get, Option, Some, None, Result, Ok, Err, refl}
+use Rattle.std.specs.Prelude.{◌≡◌, ℕ, zero, suc, Bool, true, if◌then◌else◌, is_some, bytes_eq, nat_eq, List, [], ◌∷◌, length, slice_get, Option, Some, None, Ok, Err, refl}
 use Rattle.std.specs.List.{AllZip}
 use Rattle.std.specs.Option.{option_map, option_or}
 use Rattle.std.proofs.Common.{sym, ◌∙◌, ap, ap₂, subst}

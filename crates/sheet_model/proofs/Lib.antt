@@ -10,3 +10,6 @@ pub mod Inputs
 pub mod Counts
 pub mod Members
 pub mod Parted
+pub mod Stated
+pub mod Grouping
+pub mod SheetGroups

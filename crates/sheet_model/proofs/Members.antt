@@ -93,7 +93,7 @@ members_are rows (Formula name f ∷ xs) = members_are rows xs
 
 -- ---- a name among the inputs
 -- an input of a row is one of its quantities, so that the row is that of the name before the point
-input_given : (n : List ℕ) (row : Row) → is_input_of n row ≡ true → gives row n ≡ true
+pub input_given : (n : List ℕ) (row : Row) → is_input_of n row ≡ true → gives row n ≡ true
 input_given n (Given name estimate shape dof) e = e
 input_given n (Readings name table) e = e
 input_given n (Joint name columns table) e = e
@@ -362,7 +362,7 @@ one_member rows regular once may apart n there = split rows n rows ∙ by (is_co
   by false e = ap₂ (λ a b. a + b) (own_alone rows n e rows ∙ one_input n rows regular once there) (none_in_pairs n rows e)
 
 -- ---- which names are those of inputs
-any_more : (p q : Row → Bool) → ((row : Row) → p row ≡ true → q row ≡ true) → (xs : List Row) → list_any p xs ≡ true → list_any q xs ≡ true
+pub any_more : (p q : Row → Bool) → ((row : Row) → p row ≡ true → q row ≡ true) → (xs : List Row) → list_any p xs ≡ true → list_any q xs ≡ true
 any_more p q h [] e = e
 any_more p q h (x ∷ xs) e = by (p x) refl e (any_more p q h xs) where
   by : (t : Bool) → p x ≡ t → (t || list_any p xs) ≡ true → (list_any p xs ≡ true → list_any q xs ≡ true) → (q x || list_any q xs) ≡ true

@@ -4,3 +4,5 @@ pub mod Groups
 pub mod WorkedGroups
 pub mod Walks
 pub mod Numbering
+pub mod Statements
+pub mod Grouping

@@ -1,5 +1,5 @@
 -- The quantities of a sheet by numbers, which are their places among them, as the code keeps them.
-use Rattle.std.specs.Prelude.{◌≡◌, ℕ, ◌<◌, bytes_eq, List, [], ◌∷◌, ◌++◌, length, map, drop}
+use Rattle.std.specs.Prelude.{◌≡◌, ℕ, bytes_eq, List, [], ◌∷◌, ◌++◌, map, drop}
 use Rattle.std.specs.List.{AllZip, flat_map, position_or_len}
 use Rattle.dep_graph.specs.Nodes.{ids_of}
 use Rattle.type_a.specs.Tables.{Table}

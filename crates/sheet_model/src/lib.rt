@@ -2,8 +2,10 @@
 //! of propagation of uncertainty is a sum.
 #![tactic(auto)]
 
+mod groups;
 mod laws;
 mod numbering;
+mod statements;
 
-pub use laws::{groups_part_the_inputs, worked_groups};
+pub use laws::{groups_part_the_inputs, worked_groups, worked_quantities};
 pub use numbering::Numbered;

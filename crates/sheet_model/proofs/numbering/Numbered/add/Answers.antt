@@ -1,4 +1,4 @@
-use Rattle.std.proofs.Common.{nat_eq, if◌then◌else◌, Some, insert, sym, ◌∙◌, ap, ap₂, subst}
+use Rattle.std.proofs.Common.{nat_eq, if◌then◌else◌, Some, insert, sym, ◌∙◌, ap, ap₂}
 use Rattle.dep_graph.specs.Nodes.{has, ids_of}
 use Rattle.value_cache.specs.Slots.{body_view, bodies_of}
 use Rattle.sheet_model.proofs.Kept.{new_id, no_body, uses_there, added}

@@ -1,4 +1,4 @@
-use Rattle.std.proofs.Common.{◌≡◌, ◌++◌, ◌∷◌, [], ◌<◌, arith, sym, ap, subst}
+use Rattle.std.proofs.Common.{◌++◌, ◌<◌, arith, sym, ap, subst}
 use Rattle.type_a.specs.Tables.{width_of}
 use Rattle.value_cache.specs.Quantities.{Column}
 use Rattle.value_cache.specs.declared.body.Body.TheVariants.{Column as CodeColumn}

@@ -1,4 +1,4 @@
-use Rattle.std.proofs.Common.{ℕ, List, ◌∷◌, [], sym, ◌∙◌, ap, refl}
+use Rattle.std.proofs.Common.{ℕ, List, ◌∷◌, [], ◌∙◌, ap, refl}
 use Rattle.formula_ast.specs.Trees.{names_of}
 use Rattle.formula_ast.specs.Views.{tree_of}
 use Rattle.value_cache.specs.Quantities.{Quantity, by_names}

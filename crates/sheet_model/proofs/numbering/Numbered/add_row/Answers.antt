@@ -1,5 +1,4 @@
 use Rattle.std.proofs.Common.{ℕ, ◌<◌, List, OnOk, ◌∷◌, [], arith, sym, ap, subst, refl}
-use Rattle.formula_ast.specs.Trees.{HasExponents}
 use Rattle.formula_ast.specs.Views.{tree_of}
 use Rattle.formula_ast.specs.Printing.{print}
 use Rattle.formula_ast.proofs.Exponents.{read_exponents}

@@ -5,4 +5,4 @@ use Rattle.sheet_model.proofs.numbering.Numbered.new.Given as goal
 
 abbrev pub invariant-loop-row : goal.invariant-loop-row
 invariant-loop-row l =
-    IsWalked (map (λ row. row_of row.value) l.fn.rows) (map (λ row. row_of row.value) (drop l.row-index l.row-items)) l.numbered
+    IsWalked (map (λ row. row_of row.value) l.rows) (map (λ row. row_of row.value) (drop l.row-index l.rows)) l.numbered
