@@ -12,6 +12,8 @@ mod part;
 mod range;
 mod sum;
 mod term;
+#[cfg(test)]
+mod tests;
 
 pub use fault::DegreesFault;
 pub use group_laws::{
