@@ -8,6 +8,8 @@ mod group;
 mod group_list;
 mod laws;
 mod model_laws;
+#[cfg(test)]
+mod tests;
 mod variances;
 
 pub use covariances::covariance;
