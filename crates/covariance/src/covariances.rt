@@ -96,7 +96,8 @@ fn with_group<L: Ledger>(
 }
 
 /// The span of the covariance of two quantities with these gradients (JCGM 100:2008, 5.2.2, H.2.3), in the
-/// product of their units: the sum over the groups that have a member in one of the gradients.
+/// product of their units: the sum over the groups that have a member in one of the gradients. Each of these, of m
+/// members, ticks at most 16 m² times.
 ///
 /// # Errors
 ///
