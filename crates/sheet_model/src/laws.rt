@@ -1,5 +1,5 @@
-//! What holds of the quantities and the groups of a sheet. Each function has an empty body, and its clauses are a theorem on the
-//! definitions.
+//! What holds of the quantities and the groups of a sheet. Each function has an empty body, and its clauses are a
+//! theorem on the definitions.
 
 ghost use Rattle.std.specs.Prelude.{◌≡◌, bytes_eq, codes, [], ◌∷◌, pos};
 ghost use Rattle.exact_law.specs.Law.{AllGroups, IsSoundFor, PartTheInputs};
@@ -20,8 +20,8 @@ ghost use Rattle.sheet_model.specs.WorkedGroups.{mixed};
 
 /// The groups of a sheet that stands part its inputs: each input is a member of one group, and stands once there, and
 /// each member is an input. Each group is regular, so that its spans enclose what is exact, and sound: no variance is
-/// below 0, and no covariance exceeds what its variances allow. And each quantity of the model has a name of its own, so that
-/// they are groups of the model as `covariance` asks.
+/// below 0, and no covariance exceeds what its variances allow. And each quantity of the model has a name of its own, so
+/// that they are groups of the model as `covariance` asks.
 pub fn groups_part_the_inputs()
     ensures parted { (sheet : Sheet) → IsStanding sheet → PartTheInputs bytes_eq (inputs sheet) (exact_groups sheet) }
     ensures regular { (sheet : Sheet) → IsStanding sheet → AreRegular (groups sheet) }
@@ -29,9 +29,9 @@ pub fn groups_part_the_inputs()
     ensures of_model { (sheet : Sheet) → IsStanding sheet → AreGroupsOf bytes_eq (model_of (quantities sheet)) (groups sheet) }
 {}
 
-/// The quantities of a sheet with the inputs A, B and C, of which P correlates A and C, with readings of D, with the joint
-/// readings T of K and L, and with the formula Y: one for each input, for the readings, for each column and for the
-/// formula, and none for the correlation.
+/// The quantities of a sheet with the inputs A, B and C, of which P correlates A and C, with readings of D, with the
+/// joint readings T of K and L, and with the formula Y: one for each input, for the readings, for each column and for
+/// the formula, and none for the correlation.
 pub fn worked_quantities()
     ensures { quantities mixed
         ≡ record { key = named 65; body = Input (whole 10) } ∷ record { key = named 66; body = Input (whole 10) }
@@ -42,8 +42,8 @@ pub fn worked_quantities()
         ∷ record { key = named 89; body = by_names (Variable (named 65)) } ∷ [] }
 {}
 
-/// The inputs and the groups of that sheet: a group for B, one for D, one for the columns of T, and one for the pair. The formula Y
-/// has none.
+/// The inputs and the groups of that sheet: a group for B, one for D, one for the columns of T, and one for the pair.
+/// The formula Y has none.
 pub fn worked_groups()
     ensures inputs { inputs mixed ≡ named 65 ∷ named 66 ∷ named 67 ∷ named 68 ∷ codes "T.K" ∷ codes "T.L" ∷ [] }
     ensures groups { groups mixed
