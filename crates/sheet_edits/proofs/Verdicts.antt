@@ -3,24 +3,21 @@ use Rattle.std.proofs.Common.{◌≡◌, ℕ, zero, suc, Bool, true, false, ◌|
 use Rattle.std.specs.Prelude.{if◌then◌else◌, position, find, bytes_eq, remove, slice_get, slice_set as set}
 use Rattle.std.specs.List.{list_any}
 use Rattle.std.specs.Option.{option_map, option_or}
-use Rattle.std.proofs.lemmas.List.{take_all, append_assoc}
-use Rattle.std.proofs.lemmas.List.Folds.{list_any-append}
+use Rattle.std.proofs.lemmas.List.{take_all}
 use Rattle.sheet_rows.specs.declared.edit_fault.EditFault.TheVariants.{RowsFull, Duplicate, Unknown, NotEarlier, NotCorrelatable, AlreadyCorrelated, InUse}
 use Rattle.formula_ast.specs.Names.{is_plain_name}
 use Rattle.sheet_rows.specs.Regular.{IsRegular, AreRegular}
-use Rattle.sheet_rows.proofs.Parts.{row_part-plain, row_part-column}
 use Rattle.sheet_rows.proofs.RegularRows.{regular_added, no_row}
 use Rattle.sheet_edits.proofs.Regular.{regular_set, regular_taken}
-use Rattle.sheet_rows.specs.Rows.{Row, Sheet, Given, Readings, Joint, Correlation, Formula, column_name, column_names, row_part, name_of, used_names, quantities_of, gives, gives_input, correlated_names, is_correlatable}
+use Rattle.sheet_rows.specs.Rows.{Row, Sheet, row_part, name_of, used_names, gives, correlated_names, is_correlatable}
 use Rattle.sheet_edits.specs.Verdicts.{Verdict, first_unknown, first_not_earlier, first_not_correlatable, first_correlated, added, rows_with, set_row, rows_without, removed, rows_before, unless, unless_uses_fail, unless_left, verdict_add, verdict_set, verdict_on_set, is_user_of, verdict_remove, verdict_on_removal}
-use Rattle.sheet_rows.specs.Sheets.{is_named, is_among, has_row, quantities_in, is_quantity_in, has_quantity, is_input_in, is_correlatable_in, repeated_name, is_correlated_apart, are_named_once, are_known, are_correlatable, are_apart, row_limit}
+use Rattle.sheet_rows.specs.Sheets.{is_named, is_among, has_row, is_quantity_in, has_quantity, is_correlatable_in, repeated_name, is_correlated_apart, are_named_once, are_known, are_correlatable, are_apart, row_limit}
 use Rattle.sheet_edits.specs.Places.{place_of, is_known_with, is_correlatable_with, stands_before, unless_names_fail}
-use Rattle.std.proofs.Math.Bool.{or-false}
-use Rattle.std.proofs.lemmas.Bool.{lt-leb, and_right, or_parts}
+use Rattle.std.proofs.lemmas.Bool.{lt-leb, or_parts}
 use Rattle.sheet_edits.proofs.Conditions.{unless_ok}
 use Rattle.sheet_rows.proofs.Tests.{none_all, all_none, same_name, named_itself}
 use Rattle.sheet_rows.proofs.Quantities.{quantity_named}
-use Rattle.sheet_rows.proofs.Named.{holds, has_none, has_found, has_before, has_added}
+use Rattle.sheet_rows.proofs.Named.{has_before, has_added}
 use Rattle.sheet_edits.proofs.Named.{has_set}
 use Rattle.sheet_edits.proofs.Correlated.{apart_added, apart_set, correlatable_allowed, allowed_correlatable, apart_allowed, allowed_apart}
 use Rattle.sheet_edits.proofs.Positions.{some_same, position-any, before-any, IsFirstAt, first_at, find_agree, find_distinct}
