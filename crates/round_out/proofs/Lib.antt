@@ -12,3 +12,4 @@ pub mod Searching
 pub mod Saying
 pub mod Reporting
 pub mod Lower
+pub mod Holding

@@ -129,7 +129,7 @@ by_zero c v w false e =
     let parts = or_parts _ _ e in
     by_positive c v w (not_zero_by_test v parts.0) (not_zero_by_test w parts.1) (is_positive_span v && is_positive_span w) refl
 
-correlation_is_said : (c v w : Interval) → IsSaid c v w (correlation_of c v w)
+pub correlation_is_said : (c v w : Interval) → IsSaid c v w (correlation_of c v w)
 unfolding correlation_of
 correlation_is_said c v w = by_zero c v w (is_zero_span v || is_zero_span w) refl
 

@@ -41,12 +41,12 @@ test_of_place v m e d =
       high m h = omega arith
 
 -- ---- candidates
-abbrev IsCandidate : Rounded → Type 0
+abbrev pub IsCandidate : Rounded → Type 0
 IsCandidate Zero = Unit {0}
 IsCandidate (Digits m e) = (10 ≤ m) × (m < 100)
 IsCandidate Unsettled = ⊥
 
-are_candidates : (v : ℚ) → AllByRecursion IsCandidate (candidates v)
+pub are_candidates : (v : ℚ) → AllByRecursion IsCandidate (candidates v)
 are_candidates v = (
   tt,
   all_flat_map IsCandidate (λ e. map (λ m. Digits m e) (range_with_len 10 90)) (filter (has_root v 199 1990) places)
@@ -74,7 +74,7 @@ is_candidate v m e d least most = inr (by (place_number e least most)) where
       (subst (λ t. Stands t places) k (stands_map (λ n. pos n +ℤ negsuc 18) n (range_with_len 0 28) (stands_range n 0 28 (omega arith) h))))
 
 -- ---- what is found
-digits_by_tests : (v : Interval) (r : Rounded) → IsCandidate r → have_digits v r ≡ true → AreSettledDigits v (stated_digits r)
+pub digits_by_tests : (v : Interval) (r : Rounded) → IsCandidate r → have_digits v r ≡ true → AreSettledDigits v (stated_digits r)
 unfolding AreDigitsOf
 digits_by_tests v Zero c t =
     let parts = and_parts _ _ t in

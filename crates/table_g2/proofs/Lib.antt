@@ -1,5 +1,5 @@
 mod WholePart
 mod Rows
-mod Enclosed
+pub mod Enclosed
 mod Worked
-mod SaidRanges
+pub mod SaidRanges
