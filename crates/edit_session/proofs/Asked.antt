@@ -42,8 +42,8 @@ module _ (qs : Quantities) (kept : Numbered) (order : AreInOrder bytes_eq [] qs)
     of_cell : (cell : Evaluation ℕ) → evaluation_of nat_eq (quantities_by kept) (number_in kept.names.keys n) ≡ Some cell
         → option_map (renamed_evaluation (number_among qs)) (evaluation_of bytes_eq qs n) ≡ Some cell
     of_cell cell e =
-        sym (evaluation_of-renamed bytes_eq same_names nat_eq (number_among qs) qs (quantities_by kept) renamed n there)
-        ∙ ap (evaluation_of nat_eq (quantities_by kept)) (sym (number_is n)) ∙ e
+        sym (evaluation_of-renamed bytes_eq same_names nat_eq (number_among qs) qs (quantities_by kept) (renamed qs kept order are) n there)
+        ∙ ap (evaluation_of nat_eq (quantities_by kept)) (sym (number_is qs kept order are n)) ∙ e
 
     pub enclosed_cell : (s : Interval) → evaluation_of nat_eq (quantities_by kept) (number_in kept.names.keys n) ≡ Some (Enclosed s)
         → evaluation_of bytes_eq qs n ≡ Some (Enclosed s)
@@ -66,7 +66,7 @@ module _ (qs : Quantities) (kept : Numbered) (order : AreInOrder bytes_eq [] qs)
     fault_within fault id e =
         let of = fault_cell fault id e in
         subst (λ k. k < length kept.names.keys) (ap (λ ns. number_in ns of.row) are.named ∙ of.number)
-        (number_within kept.names.keys of.row (name_kept of.row (fault_there fault id e)))
+        (number_within kept.names.keys of.row (name_kept qs kept order are of.row (fault_there fault id e)))
 
     pub faulted_cell : (fault : ArithFault) (id : ℕ) (name : List ℕ)
         → evaluation_of nat_eq (quantities_by kept) (number_in kept.names.keys n) ≡ Some (Fault fault id)
@@ -75,7 +75,7 @@ module _ (qs : Quantities) (kept : Numbered) (order : AreInOrder bytes_eq [] qs)
         let of = fault_cell fault id e in
         of.is
         ∙ ap (λ row. Some (Fault fault row))
-        (sym (name_back of.row name id (fault_there fault id e) (sym of.number) found))
+        (sym (name_back qs kept order are of.row name id (fault_there fault id e) (sym of.number) found))
 
     -- under its number its name is found
     pub fault_named : (fault : ArithFault) (id : ℕ) (e : evaluation_of nat_eq (quantities_by kept) (number_in kept.names.keys n) ≡ Some (Fault fault id))
