@@ -1,5 +1,6 @@
 use formula_ast::Name;
 use sheet_rows::Row;
+use table_g2::Level;
 
 /// A change of the rows of a sheet.
 #[derive(Drop, Debug)]
@@ -17,9 +18,23 @@ pub enum Edit {
 pub enum Query {
     /// What interval encloses the value of the quantity of this name?
     Value(Name),
+    /// What interval encloses the variance of the quantity of this name, the square of its combined standard
+    /// uncertainty (JCGM 100:2008, 5.1.2, 5.2.2)?
+    Variance(Name),
+    /// What interval encloses the covariance of the quantities of these names (JCGM 100:2008, 5.2.2, H.2.3)?
+    Covariance(Name, Name),
+    /// What is the correlation coefficient of the quantities of these names (JCGM 100:2008, 5.2.2)?
+    Correlation(Name, Name),
     /// What interval encloses the sensitivity of the quantity of the first name to the input of the second (JCGM
     /// 100:2008, 5.1.3)?
     Sensitivity(Name, Name),
+    /// How many effective degrees of freedom has the quantity of this name (JCGM 100:2008, G.4.1)?
+    Degrees(Name),
+    /// How are the quantity of this name and its standard uncertainty reported (JCGM 100:2008, 7.2.6)?
+    Report(Name),
+    /// How are the quantity of this name and its expanded uncertainty at this level of confidence reported (JCGM
+    /// 100:2008, 6.2.1, 7.2.6, G.4.1)?
+    Expanded(Name, Level),
     /// Which rows are there?
     Dump,
 }

@@ -42,6 +42,8 @@ pub enum LineFault {
     Syntax(usize),
     /// The line gives no row, for this reason.
     Row(RowFault),
+    /// The level of confidence of a query is none of 95, 95.45 and 99 percent.
+    Level,
     /// The line has more bytes than a line may have.
     LongLine,
     /// The table block has more bytes than a block may have.

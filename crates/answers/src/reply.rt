@@ -1,16 +1,36 @@
 use crate::fault::{AskFault, HistoryFault, LineFault, MarkFault};
+use decimal18::Dec;
 use fixed_interval::{ArithFault, Span};
 use formula_ast::Name;
+use round_out::{CorrSaid, Reported};
 use sheet_rows::{EditFault, RowList};
+use table_g2::DofSaid;
 
 /// The answer to a query.
 #[derive(Drop, Debug)]
 pub enum Answer {
     /// The value of the quantity of this name is in this interval, in the quantity's own unit.
     Value(Name, Span),
+    /// The variance of the quantity of this name, the square of its combined standard uncertainty (JCGM 100:2008,
+    /// 5.1.2, 5.2.2), is in this interval, in the square of the quantity's unit.
+    Variance(Name, Span),
+    /// The covariance of the quantities of these names (JCGM 100:2008, 5.2.2, H.2.3) is in this interval, in the
+    /// product of their units.
+    Covariance(Name, Name, Span),
+    /// This is said of the correlation coefficient of the quantities of these names (JCGM 100:2008, 5.2.2).
+    Correlation(Name, Name, CorrSaid),
     /// The sensitivity of the quantity of the first name to the input of the second (JCGM 100:2008, 5.1.3) is in this
     /// interval, in the unit of the quantity for one unit of the input.
     Sensitivity(Name, Name, Span),
+    /// This is said of the effective degrees of freedom of the quantity of this name (JCGM 100:2008, G.4.1).
+    Degrees(Name, DofSaid),
+    /// The quantity of this name and its combined standard uncertainty, both in the quantity's unit, are reported so
+    /// (JCGM 100:2008, 7.2.6).
+    Report(Name, Reported),
+    /// The quantity of this name and its expanded uncertainty, both in the quantity's unit, are reported so (JCGM
+    /// 100:2008, 6.2.1, 7.2.6), with this coverage factor. Where nothing is settled, the factor is the least that there
+    /// may be.
+    Expanded(Name, Reported, Dec),
     /// These are the rows, in their order.
     Dump(RowList),
     /// The quantity has no interval: this fault arose in the row of this name.
