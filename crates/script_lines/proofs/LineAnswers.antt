@@ -7,7 +7,8 @@ use Rattle.answers.specs.Commands.{Command}
 use Rattle.answers.specs.declared.fault.LineFault.{LineFault}
 use Rattle.answers.specs.declared.fault.LineFault.TheVariants.{OutOfMemory}
 use Rattle.script_lines.specs.declared.verb.Verb.{Verb}
-use Rattle.script_lines.specs.Commands.{mapped, verb_of, command_with, line_with, line_read}
+use Rattle.script_lines.specs.Parts.{mapped}
+use Rattle.script_lines.specs.Commands.{verb_of, command_with, line_with, line_read}
 
 -- the line, from its words
 line_is : (line : List ℕ) (ws : List Word) → words_from (written_part line) 0 ≡ ws → line_read line ≡ line_with (written_part line) ws

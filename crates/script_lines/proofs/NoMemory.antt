@@ -1,5 +1,5 @@
 -- What an item is as a command is never out of memory.
-use Rattle.std.proofs.Common.{◌≡◌, ◌≢◌, ℕ, ◌+◌, Bool, true, false, cond, List, [], ◌∷◌, length, Some, Ok, Err, refl, subst}
+use Rattle.std.proofs.Common.{◌≡◌, ◌≢◌, ℕ, ◌+◌, Bool, true, false, cond, List, [], ◌∷◌, length, Option, Some, None, Ok, Err, refl, subst}
 use Rattle.std.specs.Prelude.{bytes_eq, codes}
 use Rattle.formula_ast.specs.Names.{is_plain_name, is_name}
 use Rattle.line_text.specs.Words.{Word, words_from, written_part}
@@ -12,19 +12,25 @@ use Rattle.row_text.specs.Tables.{table_at}
 use Rattle.row_text.proofs.NoMemory.{row_never, table_never}
 use Rattle.answers.specs.Commands.{Add, Set, Remove, Change, Undo, Redo, Mark, Restore, Ask, AskAt}
 use Rattle.answers.specs.declared.command.Query.{Query}
-use Rattle.answers.specs.declared.command.Query.TheVariants.{Value, Sensitivity, Dump}
+use Rattle.answers.specs.declared.command.Query.TheVariants.{Value, Variance, Covariance, Correlation, Sensitivity, Degrees, Report, Expanded, Dump}
 use Rattle.answers.specs.declared.fault.LineFault.{LineFault}
-use Rattle.answers.specs.declared.fault.LineFault.TheVariants.{Syntax, Row as RowRefused, LongLine as LineTooLong, LongTable as TableTooLong, UnclosedTable as TableUnclosed, NotBuilt, OutOfMemory}
+use Rattle.answers.specs.declared.fault.LineFault.TheVariants.{Syntax, Row as RowRefused, Level as LevelRefused, LongLine as LineTooLong, LongTable as TableTooLong, UnclosedTable as TableUnclosed, NotBuilt, OutOfMemory}
+use Rattle.table_g2.specs.declared.known.Level.{Level}
+use Rattle.script_lines.specs.declared.verb.QueryWord.{QueryWord}
+use Rattle.script_lines.specs.declared.verb.QueryWord.TheVariants.{Value as ValueWord, Variance as VarianceWord, Covariance as CovarianceWord, Correlation as CorrelationWord, Sensitivity as SensitivityWord, Degrees as DegreesWord, Report as ReportWord, Expanded as ExpandedWord, Dump as DumpWord, Later as LaterWord}
 use Rattle.script_lines.specs.declared.item.Item.{Item}
 use Rattle.script_lines.specs.declared.item.Item.TheVariants.{Line, Block, LongLine, LongTable, UnclosedTable}
 use Rattle.script_lines.specs.declared.verb.Verb.{Verb}
 use Rattle.script_lines.specs.declared.verb.Verb.TheVariants.{Set as SetVerb, Remove as RemoveVerb, Undo as UndoVerb, Redo as RedoVerb, Mark as MarkVerb, Restore as RestoreVerb, At as AtVerb, Ask as AskVerb, Row as RowVerb}
-use Rattle.script_lines.specs.Commands.{Read, mapped, then_read, alone, no_more, name_word, sole_name, is_other_query, value_query, sensitivity_query, query_with, query_of, query_at, verb_of, row_of_line, adding, setting, command_with, line_with, line_read, block_with, block_read, command_read}
+use Rattle.script_lines.specs.Parts.{Read, mapped, then_read, alone, no_more, any_word, name_word, plain_word, sole_name}
+use Rattle.script_lines.specs.Queries.{query_word, one_name, two_names, level_of, level_checked, name_and_level, query_with, query_begun, query_of, query_at}
+use Rattle.script_lines.specs.Commands.{verb_of, row_of_line, adding, setting, command_with, line_with, line_read, block_with, block_read, command_read}
 
 abbrev IsNoMemory : LineFault → Type 0
 IsNoMemory OutOfMemory = ⊥
 IsNoMemory (RowRefused fault) = fault ≢ RowMemory
 IsNoMemory (Syntax at) = Unit {0}
+IsNoMemory LevelRefused = Unit {0}
 IsNoMemory LineTooLong = Unit {0}
 IsNoMemory TableTooLong = Unit {0}
 IsNoMemory TableUnclosed = Unit {0}
@@ -55,34 +61,61 @@ word_failed end [] = tt
 word_failed end (w ∷ ws) =
     cond_failed (is_name w.text) (Ok (record { item = w.text; rest = ws })) (Err (Syntax (w.place + 1))) tt tt
 
+plain_failed : (end : ℕ) (ws : List Word) → IfFailed (plain_word end ws)
+plain_failed end [] = tt
+plain_failed end (w ∷ ws) =
+    cond_failed (is_plain_name w.text) (Ok (record { item = w.text; rest = ws })) (Err (Syntax (w.place + 1))) tt tt
+
 name_failed : (end : ℕ) (ws : List Word) → IfFailed (sole_name end ws)
-name_failed end [] = tt
-name_failed end (w ∷ ws) = cond_failed (is_plain_name w.text) (alone w.text ws) (Err (Syntax (w.place + 1))) (alone_failed w.text ws) tt
+name_failed end ws = then_failed (plain_word end ws) _ (plain_failed end ws) (λ name. alone_failed name.item name.rest)
 
-value_failed : (end : ℕ) (ws : List Word) → IfFailed (value_query end ws)
-value_failed end ws = then_failed (name_word end ws) _ (word_failed end ws) (λ name. alone_failed (Value name.item) name.rest)
+one_failed : (end : ℕ) (ws : List Word) → IfFailed (one_name end ws)
+one_failed end ws = then_failed (name_word end ws) _ (word_failed end ws) (λ name. alone_failed name.item name.rest)
 
-sensitivity_failed : (end : ℕ) (ws : List Word) → IfFailed (sensitivity_query end ws)
-sensitivity_failed end ws =
+two_failed : (end : ℕ) (ws : List Word) → IfFailed (two_names end ws)
+two_failed end ws =
+    then_failed (name_word end ws) _ (word_failed end ws) (λ first.
+    then_failed (name_word end first.rest) _ (word_failed end first.rest) (λ second. alone_failed (first.item, second.item) second.rest))
+
+any_failed : {A : Type 0} (meaning : List ℕ → A) (end : ℕ) (ws : List Word) → IfFailed (any_word meaning end ws)
+any_failed meaning end [] = tt
+any_failed meaning end (w ∷ ws) = tt
+
+checked_failed : (said : Option Level) → IfFailed (level_checked said)
+checked_failed None = tt
+checked_failed (Some level) = tt
+
+level_failed : (end : ℕ) (ws : List Word) → IfFailed (name_and_level end ws)
+level_failed end ws =
     then_failed (name_word end ws) _ (word_failed end ws) (λ name.
-    then_failed (name_word end name.rest) _ (word_failed end name.rest) (λ input. alone_failed (Sensitivity name.item input.item) input.rest))
+    then_failed (any_word level_of end name.rest) _ (any_failed level_of end name.rest) (λ said.
+    then_failed (no_more said.rest) _ (alone_failed tt said.rest) (λ done.
+    mapped_failed (λ level. (name.item, level)) (level_checked said.item) (checked_failed said.item))))
 
-query_failed : (end : ℕ) (w : Word) (ws : List Word) → IfFailed (query_with end w ws)
-query_failed end w ws =
-    cond_failed (bytes_eq w.text (codes "value")) (value_query end ws) _ (value_failed end ws)
-    (cond_failed (bytes_eq w.text (codes "sens")) (sensitivity_query end ws) _ (sensitivity_failed end ws)
-    (cond_failed (bytes_eq w.text (codes "dump")) (alone Dump ws) _ (alone_failed Dump ws)
-    (cond_failed (is_other_query w.text) (Err NotBuilt) (Err (Syntax (w.place + 1))) tt tt)))
+query_failed : (asked : QueryWord) (end : ℕ) (ws : List Word) → IfFailed (query_with asked end ws)
+query_failed ValueWord end ws = mapped_failed Value (one_name end ws) (one_failed end ws)
+query_failed VarianceWord end ws = mapped_failed Variance (one_name end ws) (one_failed end ws)
+query_failed CovarianceWord end ws = mapped_failed (λ names. Covariance names.0 names.1) (two_names end ws) (two_failed end ws)
+query_failed CorrelationWord end ws = mapped_failed (λ names. Correlation names.0 names.1) (two_names end ws) (two_failed end ws)
+query_failed SensitivityWord end ws = mapped_failed (λ names. Sensitivity names.0 names.1) (two_names end ws) (two_failed end ws)
+query_failed DegreesWord end ws = mapped_failed Degrees (one_name end ws) (one_failed end ws)
+query_failed ReportWord end ws = mapped_failed Report (one_name end ws) (one_failed end ws)
+query_failed ExpandedWord end ws = mapped_failed (λ asked. Expanded asked.0 asked.1) (name_and_level end ws) (level_failed end ws)
+query_failed DumpWord end ws = alone_failed Dump ws
+query_failed LaterWord end ws = tt
+
+begun_failed : (asked : Option QueryWord) (end : ℕ) (w : Word) (ws : List Word) → IfFailed (query_begun asked end w ws)
+begun_failed None end w ws = tt
+begun_failed (Some asked) end w ws = query_failed asked end ws
 
 query_of_failed : (end : ℕ) (ws : List Word) → IfFailed (query_of end ws)
 query_of_failed end [] = tt
-query_of_failed end (w ∷ ws) = query_failed end w ws
+query_of_failed end (w ∷ ws) = begun_failed (query_word w.text) end w ws
 
 query_at_failed : (end : ℕ) (ws : List Word) → IfFailed (query_at end ws)
-query_at_failed end [] = tt
-query_at_failed end (w ∷ ws) =
-    cond_failed (is_plain_name w.text) (mapped (λ query. (w.text, query)) (query_of end ws)) (Err (Syntax (w.place + 1)))
-    (mapped_failed (λ query. (w.text, query)) (query_of end ws) (query_of_failed end ws)) tt
+query_at_failed end ws =
+    then_failed (plain_word end ws) _ (plain_failed end ws) (λ mark.
+    mapped_failed (λ query. (mark.item, query)) (query_of end mark.rest) (query_of_failed end mark.rest))
 
 query_at_told : (r : Read (List ℕ × Query)) → IfFailed r → r ≢ Err OutOfMemory
 query_at_told (Ok asked) h e = cc
@@ -110,7 +143,7 @@ command_failed RedoVerb text w ws = mapped_failed (λ done. Redo) (no_more ws) (
 command_failed MarkVerb text w ws = mapped_failed Mark (sole_name (length text) ws) (name_failed (length text) ws)
 command_failed RestoreVerb text w ws = mapped_failed Restore (sole_name (length text) ws) (name_failed (length text) ws)
 command_failed AtVerb text w ws = mapped_failed (λ asked. AskAt asked.0 asked.1) (query_at (length text) ws) (query_at_failed (length text) ws)
-command_failed AskVerb text w ws = mapped_failed Ask (query_with (length text) w ws) (query_failed (length text) w ws)
+command_failed (AskVerb asked) text w ws = mapped_failed Ask (query_with asked (length text) ws) (query_failed asked (length text) ws)
 command_failed RowVerb text w ws = adding_failed (row_at text (w ∷ ws)) (row_never text (w ∷ ws))
 
 block_failed : (text : List ℕ) (ws : List Word) (body : List ℕ) → IfFailed (block_with text ws body)

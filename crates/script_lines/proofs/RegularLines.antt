@@ -12,7 +12,9 @@ use Rattle.script_lines.specs.declared.item.Item.{Item}
 use Rattle.script_lines.specs.declared.item.Item.TheVariants.{Line, Block, LongLine, LongTable, UnclosedTable}
 use Rattle.script_lines.specs.declared.verb.Verb.{Verb}
 use Rattle.script_lines.specs.declared.verb.Verb.TheVariants.{Set as SetVerb, Remove as RemoveVerb, Undo as UndoVerb, Redo as RedoVerb, Mark as MarkVerb, Restore as RestoreVerb, At as AtVerb, Ask as AskVerb, Row as RowVerb}
-use Rattle.script_lines.specs.Commands.{Read, mapped, no_more, sole_name, query_with, query_at, verb_of, row_of_line, adding, setting, command_with, line_with, line_read, block_with, block_read, command_read}
+use Rattle.script_lines.specs.Parts.{Read, mapped, no_more, sole_name}
+use Rattle.script_lines.specs.Queries.{query_with, query_at}
+use Rattle.script_lines.specs.Commands.{verb_of, row_of_line, adding, setting, command_with, line_with, line_read, block_with, block_read, command_read}
 
 mapped_holds : {A B : Type 0} (r : Read A) (make : A → B) (P : A → Type 0) (Q : B → Type 0) → IfOk r P → ((x : A) → P x → Q (make x)) → IfOk (mapped make r) Q
 mapped_holds (Ok x) make P Q h k = k x h
@@ -36,7 +38,7 @@ command_regular RedoVerb text w ws = mapped_holds (no_more ws) (λ done. Redo) (
 command_regular MarkVerb text w ws = mapped_holds (sole_name (length text) ws) Mark (λ x. Unit {0}) IsRegularCommand (any_ok _) (λ x h. h)
 command_regular RestoreVerb text w ws = mapped_holds (sole_name (length text) ws) Restore (λ x. Unit {0}) IsRegularCommand (any_ok _) (λ x h. h)
 command_regular AtVerb text w ws = mapped_holds (query_at (length text) ws) (λ asked. AskAt asked.0 asked.1) (λ x. Unit {0}) IsRegularCommand (any_ok _) (λ x h. h)
-command_regular AskVerb text w ws = mapped_holds (query_with (length text) w ws) Ask (λ x. Unit {0}) IsRegularCommand (any_ok _) (λ x h. h)
+command_regular (AskVerb asked) text w ws = mapped_holds (query_with asked (length text) ws) Ask (λ x. Unit {0}) IsRegularCommand (any_ok _) (λ x h. h)
 command_regular RowVerb text w ws = adding_regular (row_at text (w ∷ ws)) (row_regular text (w ∷ ws))
 
 line_regular : (text : List ℕ) (ws : List Word) → IfOk (line_with text ws) (λ read. IfSome read IsRegularCommand)

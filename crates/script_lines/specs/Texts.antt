@@ -1,9 +1,17 @@
 -- The texts of replies, each of whole lines.
-use Rattle.std.specs.Prelude.{◌≡◌, ◌⊎◌, ℕ, List, [], ◌∷◌, ◌++◌, codes, decimal}
+use Rattle.std.specs.Prelude.{◌≡◌, ◌⊎◌, ℕ, pos, negsuc, List, [], ◌∷◌, ◌++◌, codes, decimal}
+use Rattle.decimal18.specs.Bound.{Bound}
 use Rattle.decimal18.specs.Text.{text_of}
 use Rattle.fixed_interval.specs.Interval.{Interval}
 use Rattle.fixed_interval.specs.declared.faults.ArithFault.{ArithFault}
 use Rattle.fixed_interval.specs.declared.faults.ArithFault.TheVariants.{ZeroDivisor, Overflow}
+use Rattle.round_out.specs.Printed.{text_at}
+use Rattle.round_out.specs.declared.coefficient.CorrSaid.{CorrSaid}
+use Rattle.round_out.specs.declared.coefficient.CorrSaid.TheVariants.{None as NoCoefficient, Unsettled as UnsettledCoefficient, Hundredths}
+use Rattle.round_out.specs.declared.outcome.Reported.{Reported}
+use Rattle.round_out.specs.declared.outcome.Reported.TheVariants.{Exact, Rounded, Unsettled as UnsettledReport}
+use Rattle.table_g2.specs.declared.settled.DofSaid.{DofSaid}
+use Rattle.table_g2.specs.declared.settled.DofSaid.TheVariants.{None as NoDegrees, Infinite, Big, Whole, Unsettled as UnsettledDegrees}
 use Rattle.sheet_rows.specs.Rows.{Row}
 use Rattle.row_text.specs.Printing.{printed}
 use Rattle.sheet_rows.specs.declared.fault.RowFault.{RowFault}
@@ -11,7 +19,7 @@ use Rattle.sheet_rows.specs.declared.fault.RowFault.TheVariants.{Syntax, NotNumb
 use Rattle.sheet_rows.specs.declared.edit_fault.EditFault.{EditFault}
 use Rattle.sheet_rows.specs.declared.edit_fault.EditFault.TheVariants.{RowsFull, Duplicate, Unknown, NotEarlier, NotCorrelatable, AlreadyCorrelated, InUse, OutOfMemory as EditMemory}
 use Rattle.answers.specs.declared.fault.LineFault.{LineFault}
-use Rattle.answers.specs.declared.fault.LineFault.TheVariants.{Syntax as LineSyntax, Row as RowRefused, LongLine, LongTable, UnclosedTable, NotBuilt as LineNotBuilt, OutOfMemory as LineMemory}
+use Rattle.answers.specs.declared.fault.LineFault.TheVariants.{Syntax as LineSyntax, Row as RowRefused, Level as LineLevel, LongLine, LongTable, UnclosedTable, NotBuilt as LineNotBuilt, OutOfMemory as LineMemory}
 use Rattle.answers.specs.declared.fault.HistoryFault.{HistoryFault}
 use Rattle.answers.specs.declared.fault.HistoryFault.TheVariants.{NothingToUndo, NothingToRedo, OutOfMemory as HistoryMemory}
 use Rattle.answers.specs.declared.fault.MarkFault.{MarkFault}
@@ -19,7 +27,7 @@ use Rattle.answers.specs.declared.fault.MarkFault.TheVariants.{MarksFull, NoMark
 use Rattle.answers.specs.declared.fault.AskFault.{AskFault}
 use Rattle.answers.specs.declared.fault.AskFault.TheVariants.{NoMark as AskNoMark, NoSuchResult, OutOfMemory as AskMemory}
 use Rattle.answers.specs.declared.reply.Answer.{Answer}
-use Rattle.answers.specs.declared.reply.Answer.TheVariants.{Value, Sensitivity, Dump, ValueFault, LawOverflow}
+use Rattle.answers.specs.declared.reply.Answer.TheVariants.{Value, Variance, Covariance, Correlation, Sensitivity, Degrees, Report, Expanded, Dump, ValueFault, LawOverflow}
 use Rattle.answers.specs.declared.reply.Reply.{Reply}
 use Rattle.answers.specs.declared.reply.Reply.TheVariants.{Fine, Line, Edit, History, Mark, Ask, Said}
 
@@ -55,6 +63,7 @@ text_of_row_fault OutOfMemory = []
 abbrev pub text_of_line_fault : LineFault → List ℕ
 text_of_line_fault (LineSyntax at) = placed (codes "refused syntax ") at
 text_of_line_fault (RowRefused fault) = text_of_row_fault fault
+text_of_line_fault LineLevel = codes "refused level\n"
 text_of_line_fault LongLine = codes "refused long_line\n"
 text_of_line_fault LongTable = codes "refused long_table\n"
 text_of_line_fault UnclosedTable = codes "refused open_table\n"
@@ -101,9 +110,49 @@ text_of_rows (row ∷ rows) = printed row ++ codes "\n" ++ text_of_rows rows
 abbrev pub text_of_span : Interval → List ℕ
 text_of_span span = codes " " ++ text_of span.lo ++ codes " " ++ text_of span.hi ++ codes "\n"
 
+-- the word of a query, and the name or the two names that were asked for
+abbrev pub asked_of : List ℕ → List ℕ → List ℕ
+asked_of word name = word ++ codes " " ++ name
+
+abbrev pub asked_of_two : List ℕ → List ℕ → List ℕ → List ℕ
+asked_of_two word first second = asked_of word first ++ codes " " ++ second
+
+-- a correlation coefficient, in two decimals
+abbrev pub text_of_coefficient : CorrSaid → List ℕ
+text_of_coefficient NoCoefficient = codes "none"
+text_of_coefficient UnsettledCoefficient = codes "undecided"
+text_of_coefficient (Hundredths d) = text_at d (negsuc 1)
+
+-- effective degrees of freedom, cut off to a whole number
+abbrev pub text_of_degrees : DofSaid → List ℕ
+text_of_degrees NoDegrees = codes "none"
+text_of_degrees Infinite = codes "inf"
+text_of_degrees Big = codes "big"
+text_of_degrees (Whole w) = decimal w
+text_of_degrees UnsettledDegrees = codes "undecided"
+
+-- an estimate and its uncertainty, which has this letter
+abbrev pub text_of_reported : List ℕ → Reported → List ℕ
+text_of_reported letter (Exact estimate) = text_of estimate ++ codes " " ++ letter ++ codes " 0"
+text_of_reported letter (Rounded estimate m e) = text_at estimate e ++ codes " " ++ letter ++ codes " " ++ text_at (pos m) e
+text_of_reported letter UnsettledReport = codes "undecided"
+
+-- the coverage factor of an expanded uncertainty that is reported
+abbrev pub text_of_factor : Reported → Bound → List ℕ
+text_of_factor (Exact estimate) factor = codes " k " ++ text_of factor
+text_of_factor (Rounded estimate m e) factor = codes " k " ++ text_of factor
+text_of_factor UnsettledReport factor = []
+
 abbrev pub text_of_answer : Answer → List ℕ
-text_of_answer (Value name span) = codes "value " ++ name ++ text_of_span span
-text_of_answer (Sensitivity name input span) = codes "sens " ++ name ++ codes " " ++ input ++ text_of_span span
+text_of_answer (Value name span) = asked_of (codes "value") name ++ text_of_span span
+text_of_answer (Variance name span) = asked_of (codes "var") name ++ text_of_span span
+text_of_answer (Covariance first second span) = asked_of_two (codes "cov") first second ++ text_of_span span
+text_of_answer (Correlation first second said) = asked_of_two (codes "r") first second ++ codes " " ++ text_of_coefficient said ++ codes "\n"
+text_of_answer (Sensitivity name input span) = asked_of_two (codes "sens") name input ++ text_of_span span
+text_of_answer (Degrees name said) = asked_of (codes "dof") name ++ codes " " ++ text_of_degrees said ++ codes "\n"
+text_of_answer (Report name said) = asked_of (codes "report") name ++ codes " " ++ text_of_reported (codes "u") said ++ codes "\n"
+text_of_answer (Expanded name said factor) =
+    asked_of (codes "expanded") name ++ codes " " ++ text_of_reported (codes "U") said ++ text_of_factor said factor ++ codes "\n"
 text_of_answer (Dump rows) = text_of_rows rows ++ codes "ok\n"
 text_of_answer (ValueFault fault row) = named (arithmetic_words fault) row
 text_of_answer LawOverflow = codes "fault law_overflow\n"

@@ -10,6 +10,7 @@ mod item;
 mod laws;
 mod print;
 mod print_fault;
+mod print_result;
 mod read;
 mod read_block;
 mod splitter;
@@ -25,5 +26,6 @@ pub use print::print_reply;
 pub use read::read_command;
 pub use splitter::Splitter;
 pub use worked::{
-    worked_blocks, worked_commands, worked_items, worked_limits, worked_refusals, worked_replies,
+    worked_blocks, worked_commands, worked_items, worked_limits, worked_moments, worked_queries,
+    worked_query_refusals, worked_refusals, worked_replies, worked_reports,
 };

@@ -1,18 +1,17 @@
-ghost use Rattle.std.specs.Prelude.{◌≡◌, ◌++◌, map, IfOk, OnOk, codes};
-ghost use Rattle.decimal18.specs.Text.{text_of};
+ghost use Rattle.std.specs.Prelude.{◌≡◌, ◌++◌, map, IfOk, OnOk};
 ghost use Rattle.sheet_rows.specs.Rows.{row_of};
 ghost use Rattle.sheet_rows.specs.Regular.{AreRegular};
 ghost use Rattle.answers.specs.Replies.{IsRegularAnswer, IsRegularReply};
-ghost use Rattle.answers.specs.declared.reply.Answer.{Answer};
-ghost use Rattle.script_lines.specs.Texts.{arithmetic_words, text_of_rows, text_of_span, text_of_answer, text_of_reply, SaysOutOfMemory};
+ghost use Rattle.script_lines.specs.Texts.{arithmetic_words, text_of_rows, text_of_answer, text_of_reply, SaysOutOfMemory};
 
 use crate::print_fault::{
     put_ask_fault, put_edit_fault, put_history_fault, put_line_fault, put_mark_fault, put_named,
 };
+use crate::print_result::{
+    put_correlation, put_degrees, put_expanded, put_report, put_span_of, put_span_of_two,
+};
 use answers::{Answer, Reply};
-use decimal18::Dec;
-use fixed_interval::{ArithFault, Span};
-use formula_ast::Name;
+use fixed_interval::ArithFault;
 use line_text::{Bytes, OutOfMemory};
 use row_text::print_row;
 use sheet_rows::Row;
@@ -27,49 +26,6 @@ fn arithmetic_words(fault: &ArithFault) -> &'static [u8]
         ArithFault::ZeroDivisor => b"fault zero_divisor ",
         ArithFault::Overflow => b"fault overflow ",
     }
-}
-
-/// Puts a number after a space at the end.
-fn put_number(alloc: Global, text: &mut Bytes, number: Dec) -> Result<(), OutOfMemory>
-    ensures { OnOk result (text.new ≡ text.old ++ codes " " ++ text_of number) }
-{
-    text.extend_from_slice(b" ")?;
-    text.extend_from_slice(number.print(alloc)?.as_slice())
-}
-
-/// Puts the ends of an interval at the end, and ends the line.
-fn put_span(alloc: Global, text: &mut Bytes, span: &Span) -> Result<(), OutOfMemory>
-    ensures { OnOk result (text.new ≡ text.old ++ text_of_span span.now) }
-{
-    put_number(alloc, text, span.lo())?;
-    put_number(alloc, text, span.hi())?;
-    text.extend_from_slice(b"\n")
-}
-
-/// Puts the interval of a quantity at the end.
-fn put_value(alloc: Global, text: &mut Bytes, name: &Name, span: &Span) -> Result<(), OutOfMemory>
-    ensures { OnOk result (text.new ≡ text.old ++ text_of_answer (Answer.Value name.now span.now)) }
-{
-    text.extend_from_slice(b"value ")?;
-    text.extend_from_slice(name.as_bytes())?;
-    put_span(alloc, text, span)
-}
-
-/// Puts the interval of a sensitivity at the end.
-fn put_sensitivity(
-    alloc: Global,
-    text: &mut Bytes,
-    name: &Name,
-    input: &Name,
-    span: &Span,
-) -> Result<(), OutOfMemory>
-    ensures { OnOk result (text.new ≡ text.old ++ text_of_answer (Answer.Sensitivity name.now input.now span.now)) }
-{
-    text.extend_from_slice(b"sens ")?;
-    text.extend_from_slice(name.as_bytes())?;
-    text.extend_from_slice(b" ")?;
-    text.extend_from_slice(input.as_bytes())?;
-    put_span(alloc, text, span)
 }
 
 /// Puts the rows at the end, a line each.
@@ -89,8 +45,20 @@ fn put_answer(alloc: Global, text: &mut Bytes, answer: &Answer) -> Result<(), Ou
     ensures { OnOk result (text.new ≡ text.old ++ text_of_answer answer.now) }
 {
     match answer {
-        Answer::Value(name, span) => put_value(alloc, text, name, span),
-        Answer::Sensitivity(name, input, span) => put_sensitivity(alloc, text, name, input, span),
+        Answer::Value(name, span) => put_span_of(alloc, text, b"value", name, span),
+        Answer::Variance(name, span) => put_span_of(alloc, text, b"var", name, span),
+        Answer::Covariance(first, second, span) => {
+            put_span_of_two(alloc, text, b"cov", first, second, span)
+        }
+        Answer::Correlation(first, second, said) => {
+            put_correlation(alloc, text, first, second, said)
+        }
+        Answer::Sensitivity(name, input, span) => {
+            put_span_of_two(alloc, text, b"sens", name, input, span)
+        }
+        Answer::Degrees(name, said) => put_degrees(text, name, said),
+        Answer::Report(name, said) => put_report(alloc, text, name, said),
+        Answer::Expanded(name, said, factor) => put_expanded(alloc, text, name, said, *factor),
         Answer::Dump(rows) => {
             put_rows(alloc, text, rows.as_slice())?;
             text.extend_from_slice(b"ok\n")

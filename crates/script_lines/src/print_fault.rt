@@ -60,6 +60,7 @@ pub(crate) fn put_line_fault(text: &mut Bytes, fault: &LineFault) -> Result<(), 
     match fault {
         LineFault::Syntax(at) => put_placed(text, b"refused syntax ", *at),
         LineFault::Row(fault) => put_row_fault(text, fault),
+        LineFault::Level => text.extend_from_slice(b"refused level\n"),
         LineFault::LongLine => text.extend_from_slice(b"refused long_line\n"),
         LineFault::LongTable => text.extend_from_slice(b"refused long_table\n"),
         LineFault::UnclosedTable => text.extend_from_slice(b"refused open_table\n"),

@@ -12,7 +12,7 @@ ghost use Rattle.script_lines.specs.Commands.{row_of_line, command_with, line_re
 use crate::item::Item;
 use crate::read_block::read_block;
 use crate::verb::{Verb, verb_of};
-use crate::words_after::{alone, read_begun_query, read_name, read_query_at};
+use crate::words_after::{alone, read_name, read_query_at, read_query_with};
 use answers::{Command, Edit, LineFault};
 use line_text::{Word, Words, written_part};
 use row_text::{read_begun_row, read_row_words};
@@ -79,7 +79,7 @@ fn read_with(
             let (name, query) = read_query_at(words)?;
             Ok(Command::AskAt(name, query))
         }
-        Verb::Ask => Ok(Command::Ask(read_begun_query(first, words)?)),
+        Verb::Ask(asked) => Ok(Command::Ask(read_query_with(asked, words)?)),
         Verb::Row => Ok(Command::Change(Edit::Add(added_row(alloc, first, words)?))),
     }
 }

@@ -5,14 +5,17 @@ ghost use Rattle.script_lines.specs.Texts.{SaysOutOfMemory};
 
 use crate::{Item, Splitter, print_reply, read_command};
 use answers::{Answer, AskFault, Command, Edit, HistoryFault, LineFault, MarkFault, Query, Reply};
+use decimal18::Dec;
 use fixed_interval::ArithFault;
 use formula_ast::Name;
 use line_text::Bytes;
+use round_out::{CorrSaid, Reported};
 use row_text::read_row;
 use sheet_rows::{EditFault, RowFault, RowList};
 use std::alloc::Global;
 use std::rc::Rc;
 use std::test::Fail;
+use table_g2::{DofSaid, Level};
 
 /// A text, and its lines.
 const TEXT: &[u8; 28] = b"undo\r\n\nredo\r\r\n\0a\rb\nlast # c\r";
@@ -99,7 +102,7 @@ fn lines_of_the_most_bytes_and_one_more(rt: HostRuntime) -> Result<(), Fail> {
 }
 
 /// Lines that are no commands, and why. Places are counted from 1.
-const REFUSED: [(&str, LineFault); 23] = [
+const REFUSED: [(&str, LineFault); 32] = [
     ("undo\r", LineFault::Row(RowFault::Syntax(1))),
     ("dump x", LineFault::Syntax(6)),
     ("undo 1", LineFault::Syntax(6)),
@@ -111,9 +114,18 @@ const REFUSED: [(&str, LineFault); 23] = [
     ("at M", LineFault::Syntax(5)),
     ("at T.V dump", LineFault::Syntax(4)),
     ("at M value", LineFault::Syntax(11)),
-    ("at M var X", LineFault::NotBuilt),
     ("at M undo", LineFault::Syntax(6)),
-    ("report X", LineFault::NotBuilt),
+    ("budget X", LineFault::NotBuilt),
+    ("at M decide Y G 95", LineFault::NotBuilt),
+    ("var", LineFault::Syntax(4)),
+    ("at M var 5", LineFault::Syntax(10)),
+    ("cov Y", LineFault::Syntax(6)),
+    ("r Y Z 95", LineFault::Syntax(7)),
+    ("dof Y Z", LineFault::Syntax(7)),
+    ("report .V", LineFault::Syntax(8)),
+    ("expanded Y # 95", LineFault::Syntax(11)),
+    ("expanded Y 90", LineFault::Level),
+    ("expanded Y 90 95", LineFault::Syntax(15)),
     ("value 5", LineFault::Syntax(7)),
     ("sens T.V ", LineFault::Syntax(9)),
     ("sens Y 5", LineFault::Syntax(8)),
@@ -126,7 +138,7 @@ const REFUSED: [(&str, LineFault); 23] = [
 ];
 
 /// Lines that are commands, what each does, and the name of its row, quantity or mark.
-const READ: [(&str, &str, &str); 11] = [
+const READ: [(&str, &str, &str); 19] = [
     ("given X 5 std 1 # a note", "add", "X"),
     ("set let Y=5", "set", "Y"),
     ("remove X", "remove", "X"),
@@ -135,10 +147,35 @@ const READ: [(&str, &str, &str); 11] = [
     ("mark M", "mark", "M"),
     ("restore M", "restore", "M"),
     ("value T.V", "value", "T.V"),
+    ("var T.V", "var", "T.V"),
+    ("cov Y Z", "cov", "Y"),
+    ("r Y T.V", "r", "Y"),
     ("sens Y T.V", "sens", "Y"),
+    ("dof Y", "dof", "Y"),
+    ("report Y # two digits", "report", "Y"),
+    ("expanded Y 95", "expanded at 95", "Y"),
+    ("expanded Y 95.45", "expanded at 95.45", "Y"),
+    ("expanded Y 99", "expanded at 99", "Y"),
     ("dump", "dump", ""),
     ("at M value X", "at", "M"),
 ];
+
+// What a query asks for, and the name of its quantity.
+fn asked_of(query: &Query) -> (&'static str, Option<Name>) {
+    match query {
+        Query::Value(name) => ("value", Some(*name)),
+        Query::Variance(name) => ("var", Some(*name)),
+        Query::Covariance(name, _) => ("cov", Some(*name)),
+        Query::Correlation(name, _) => ("r", Some(*name)),
+        Query::Sensitivity(name, _) => ("sens", Some(*name)),
+        Query::Degrees(name) => ("dof", Some(*name)),
+        Query::Report(name) => ("report", Some(*name)),
+        Query::Expanded(name, Level::L95) => ("expanded at 95", Some(*name)),
+        Query::Expanded(name, Level::L9545) => ("expanded at 95.45", Some(*name)),
+        Query::Expanded(name, Level::L99) => ("expanded at 99", Some(*name)),
+        Query::Dump => ("dump", None),
+    }
+}
 
 // What a command does, and the name of its row, quantity or mark.
 fn parts_of(command: &Command) -> (&'static str, Option<Name>) {
@@ -150,9 +187,7 @@ fn parts_of(command: &Command) -> (&'static str, Option<Name>) {
         Command::Redo => ("redo", None),
         Command::Mark(name) => ("mark", Some(*name)),
         Command::Restore(name) => ("restore", Some(*name)),
-        Command::Ask(Query::Value(name)) => ("value", Some(*name)),
-        Command::Ask(Query::Sensitivity(name, _)) => ("sens", Some(*name)),
-        Command::Ask(Query::Dump) => ("dump", None),
+        Command::Ask(query) => asked_of(query),
         Command::AskAt(name, _) => ("at", Some(*name)),
     }
 }
@@ -291,5 +326,38 @@ fn answers_are_printed(rt: HostRuntime) -> Result<(), Fail> {
     assert!(rt; prints(alloc, Reply::Said(fault), "fault overflow T.V\n")?);
     let fault = Answer::LawOverflow;
     assert!(rt; prints(alloc, Reply::Said(fault), "fault law_overflow\n")?);
+    Ok(())
+}
+
+// What is said of a correlation coefficient, of degrees and of a report, each in the form that it has in a reply.
+#[test]
+fn results_are_printed(rt: HostRuntime) -> Result<(), Fail> {
+    let alloc = rt.alloc();
+    let name = Name::new(b"T.V").ok_or("a name")?;
+    let other = Name::new(b"Y").ok_or("a name")?;
+    let said = Answer::Correlation(name, other, CorrSaid::Hundredths(-36));
+    assert!(rt; prints(alloc, Reply::Said(said), "r T.V Y -0.36\n")?);
+    let said = Answer::Degrees(name, DofSaid::Whole(6_427_915));
+    assert!(rt; prints(alloc, Reply::Said(said), "dof T.V 6427915\n")?);
+    let rounded = Reported::Rounded {
+        estimate: 100_011,
+        m: 50,
+        e: -3,
+    };
+    let said = Answer::Report(name, rounded);
+    assert!(rt; prints(alloc, Reply::Said(said), "report T.V 100.011 u 0.050\n")?);
+    let said = Answer::Expanded(name, rounded, Dec::whole(2));
+    assert!(rt;
+        prints(
+            alloc,
+            Reply::Said(said),
+            "expanded T.V 100.011 U 0.050 k 2\n"
+        )?
+    );
+    let exact = Reported::Exact(Dec::whole(3));
+    let said = Answer::Expanded(name, exact, Dec::whole(2));
+    assert!(rt; prints(alloc, Reply::Said(said), "expanded T.V 3 U 0 k 2\n")?);
+    let said = Answer::Expanded(name, Reported::Unsettled, Dec::whole(2));
+    assert!(rt; prints(alloc, Reply::Said(said), "expanded T.V undecided\n")?);
     Ok(())
 }

@@ -1,7 +1,84 @@
 //! What the first word of a line says of it.
 
 ghost use Rattle.std.specs.Prelude.{◌≡◌};
-ghost use Rattle.script_lines.specs.Commands.{is_other_moment, is_other_result, is_other_query, is_query_word, verb_of};
+ghost use Rattle.script_lines.specs.Queries.{query_word};
+ghost use Rattle.script_lines.specs.Commands.{asking, verb_of};
+
+/// What a word that begins a query asks for.
+#[derive(Clone, Copy, Debug, PartialEq, Eq)]
+pub(crate) enum QueryWord {
+    Value,
+    Variance,
+    Covariance,
+    Correlation,
+    Sensitivity,
+    Degrees,
+    Report,
+    Expanded,
+    Dump,
+    /// Something that the language is to have, and that is not there yet.
+    Later,
+}
+
+const VALUE: &[u8] = b"value";
+
+const VAR: &[u8] = b"var";
+
+const COV: &[u8] = b"cov";
+
+const R: &[u8] = b"r";
+
+const SENS: &[u8] = b"sens";
+
+const DOF: &[u8] = b"dof";
+
+const REPORT: &[u8] = b"report";
+
+const EXPANDED: &[u8] = b"expanded";
+
+const DUMP: &[u8] = b"dump";
+
+// What begins a query that is not there yet.
+const DECIDE: &[u8] = b"decide";
+
+const BUDGET: &[u8] = b"budget";
+
+/// What the word asks for, where it begins a query.
+pub(crate) fn query_word(word: &[u8]) -> Option<QueryWord>
+    ensures { result ≡ query_word word.now }
+{
+    if word == VALUE {
+        return Some(QueryWord::Value);
+    }
+    if word == VAR {
+        return Some(QueryWord::Variance);
+    }
+    if word == COV {
+        return Some(QueryWord::Covariance);
+    }
+    if word == R {
+        return Some(QueryWord::Correlation);
+    }
+    if word == SENS {
+        return Some(QueryWord::Sensitivity);
+    }
+    if word == DOF {
+        return Some(QueryWord::Degrees);
+    }
+    if word == REPORT {
+        return Some(QueryWord::Report);
+    }
+    if word == EXPANDED {
+        return Some(QueryWord::Expanded);
+    }
+    if word == DUMP {
+        return Some(QueryWord::Dump);
+    }
+    if word == DECIDE || word == BUDGET {
+        return Some(QueryWord::Later);
+    }
+    None
+}
 
 /// What a line does, by its first word.
 #[derive(Clone, Copy, Debug, PartialEq, Eq)]
@@ -14,60 +91,9 @@ pub(crate) enum Verb {
     Restore,
     At,
     /// A query to the present sheet.
-    Ask,
+    Ask(QueryWord),
     /// A row to add, and whatever begins no other command.
     Row,
-}
-
-pub(crate) const VALUE: &[u8] = b"value";
-
-pub(crate) const SENS: &[u8] = b"sens";
-
-pub(crate) const DUMP: &[u8] = b"dump";
-
-// What begins a query of the language that this version does not have.
-const VAR: &[u8] = b"var";
-
-const COV: &[u8] = b"cov";
-
-const R: &[u8] = b"r";
-
-/// Whether the word begins a query for an uncertainty that this version does not have.
-fn is_other_moment(word: &[u8]) -> bool
-    ensures { result ≡ is_other_moment word.now }
-{
-    word == VAR || word == COV || word == R
-}
-
-const DOF: &[u8] = b"dof";
-
-const REPORT: &[u8] = b"report";
-
-const EXPANDED: &[u8] = b"expanded";
-
-const DECIDE: &[u8] = b"decide";
-
-const BUDGET: &[u8] = b"budget";
-
-/// Whether the word begins a query for a result that this version does not have.
-fn is_other_result(word: &[u8]) -> bool
-    ensures { result ≡ is_other_result word.now }
-{
-    word == DOF || word == REPORT || word == EXPANDED || word == DECIDE || word == BUDGET
-}
-
-/// Whether the word begins a query that this version does not have.
-pub(crate) fn is_other_query(word: &[u8]) -> bool
-    ensures { result ≡ is_other_query word.now }
-{
-    is_other_moment(word) || is_other_result(word)
-}
-
-/// Whether the word begins a query.
-fn is_query_word(word: &[u8]) -> bool
-    ensures { result ≡ is_query_word word.now }
-{
-    word == VALUE || word == SENS || word == DUMP || is_other_query(word)
 }
 
 pub(crate) const SET: &[u8] = b"set";
@@ -109,8 +135,8 @@ pub(crate) fn verb_of(word: &[u8]) -> Verb
     if word == AT {
         return Verb::At;
     }
-    if is_query_word(word) {
-        return Verb::Ask;
+    match query_word(word) {
+        Some(asked) => Verb::Ask(asked),
+        None => Verb::Row,
     }
-    Verb::Row
 }

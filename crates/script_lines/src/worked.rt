@@ -8,10 +8,14 @@ ghost use Rattle.formula_ast.specs.Trees.{Number};
 ghost use Rattle.type_b.specs.declared.shape.Shape.TheVariants.{Exact};
 ghost use Rattle.type_b.specs.declared.shape.Dof.TheVariants.{Inf};
 ghost use Rattle.decimal18.specs.Bound.{scaled};
+ghost use Rattle.round_out.specs.declared.coefficient.CorrSaid.{CorrSaid};
+ghost use Rattle.round_out.specs.declared.outcome.Reported.{Reported};
+ghost use Rattle.table_g2.specs.declared.known.Level.TheVariants.{L95, L9545, L99};
+ghost use Rattle.table_g2.specs.declared.settled.DofSaid.{DofSaid};
 ghost use Rattle.sheet_rows.specs.declared.fault.RowFault.{RowFault};
 ghost use Rattle.sheet_rows.specs.declared.edit_fault.EditFault.{EditFault};
 ghost use Rattle.answers.specs.Commands.{Change, Add, Set, Remove, Undo, Redo, Mark, Restore, Ask, AskAt};
-ghost use Rattle.answers.specs.declared.command.Query.TheVariants.{Value, Sensitivity, Dump};
+ghost use Rattle.answers.specs.declared.command.Query.TheVariants.{Value, Variance, Covariance, Correlation, Sensitivity, Degrees, Report, Expanded, Dump};
 ghost use Rattle.answers.specs.declared.fault.LineFault.{LineFault};
 ghost use Rattle.answers.specs.declared.fault.HistoryFault.{HistoryFault};
 ghost use Rattle.answers.specs.declared.fault.MarkFault.{MarkFault};
@@ -85,12 +89,26 @@ pub fn worked_commands()
     ensures mark { command_read (Line (codes "mark\tM")) ≡ Ok (Some (Mark (codes "M"))) }
     ensures restore { command_read (Line (codes "restore M")) ≡ Ok (Some (Restore (codes "M"))) }
     ensures remove { command_read (Line (codes "remove X")) ≡ Ok (Some (Change (Remove (codes "X")))) }
+{}
+
+/// Queries, to the present sheet and to one that is kept.
+pub fn worked_queries()
     ensures value { command_read (Line (codes "value X")) ≡ Ok (Some (Ask (Value (codes "X")))) }
     ensures column { command_read (Line (codes "value T.V")) ≡ Ok (Some (Ask (Value (codes "T.V")))) }
+    ensures variance { command_read (Line (codes "var T.V")) ≡ Ok (Some (Ask (Variance (codes "T.V")))) }
+    ensures covariance { command_read (Line (codes "cov Y T.V")) ≡ Ok (Some (Ask (Covariance (codes "Y") (codes "T.V")))) }
+    ensures correlation { command_read (Line (codes "r\tT.V T.I")) ≡ Ok (Some (Ask (Correlation (codes "T.V") (codes "T.I")))) }
     ensures sensitivity { command_read (Line (codes "sens Y X # 5.1.3")) ≡ Ok (Some (Ask (Sensitivity (codes "Y") (codes "X")))) }
+    ensures degrees { command_read (Line (codes "dof Y # G.4.1")) ≡ Ok (Some (Ask (Degrees (codes "Y")))) }
+    ensures report { command_read (Line (codes "report Y")) ≡ Ok (Some (Ask (Report (codes "Y")))) }
+    ensures expanded { command_read (Line (codes "expanded Y 95")) ≡ Ok (Some (Ask (Expanded (codes "Y") L95))) }
+    ensures expanded_9545 { command_read (Line (codes "expanded T.V 95.45 ")) ≡ Ok (Some (Ask (Expanded (codes "T.V") L9545))) }
+    ensures expanded_99 { command_read (Line (codes "expanded Y 99#")) ≡ Ok (Some (Ask (Expanded (codes "Y") L99))) }
     ensures dump { command_read (Line (codes "dump")) ≡ Ok (Some (Ask Dump)) }
     ensures at_value { command_read (Line (codes "at M value T.V")) ≡ Ok (Some (AskAt (codes "M") (Value (codes "T.V")))) }
     ensures at_sensitivity { command_read (Line (codes "at M sens T.V T.I")) ≡ Ok (Some (AskAt (codes "M") (Sensitivity (codes "T.V") (codes "T.I")))) }
+    ensures at_correlation { command_read (Line (codes "at M r Y Z")) ≡ Ok (Some (AskAt (codes "M") (Correlation (codes "Y") (codes "Z")))) }
+    ensures at_expanded { command_read (Line (codes "at M expanded Y 99")) ≡ Ok (Some (AskAt (codes "M") (Expanded (codes "Y") L99))) }
     ensures at_dump { command_read (Line (codes "at M dump#")) ≡ Ok (Some (AskAt (codes "M") Dump)) }
 {}
 
@@ -110,21 +128,40 @@ pub fn worked_refusals()
     ensures counted { command_read (Line (codes "undo 1")) ≡ Err (LineFault.Syntax 6) }
     ensures missing { command_read (Line (codes "mark  # M")) ≡ Err (LineFault.Syntax 5) }
     ensures no_name { command_read (Line (codes "mark 1")) ≡ Err (LineFault.Syntax 6) }
-    ensures no_query { command_read (Line (codes "at M")) ≡ Err (LineFault.Syntax 5) }
-    ensures no_result { command_read (Line (codes "at M value")) ≡ Err (LineFault.Syntax 11) }
-    ensures no_names { command_read (Line (codes "sens")) ≡ Err (LineFault.Syntax 5) }
-    ensures no_input { command_read (Line (codes "sens Y # X")) ≡ Err (LineFault.Syntax 7) }
-    ensures no_input_name { command_read (Line (codes "at M sens Y 1")) ≡ Err (LineFault.Syntax 13) }
-    ensures third_name { command_read (Line (codes "sens Y X Z")) ≡ Err (LineFault.Syntax 10) }
-    ensures other_query { command_read (Line (codes "at M var X")) ≡ Err LineFault.NotBuilt }
-    ensures other_result { command_read (Line (codes "budget X")) ≡ Err LineFault.NotBuilt }
-    ensures no_edit { command_read (Line (codes "at M undo")) ≡ Err (LineFault.Syntax 6) }
     ensures no_row { command_read (Line (codes "set")) ≡ Err (LineFault.Row (RowFault.Syntax 4)) }
     ensures other_word { command_read (Line (codes "set undo")) ≡ Err (LineFault.Row (RowFault.Syntax 5)) }
     ensures column { command_read (Line (codes "remove T.V")) ≡ Err (LineFault.Syntax 8) }
     ensures other_row { command_read (Line (codes "tol G upper 1 guard 1")) ≡ Err (LineFault.Row RowFault.NotBuilt) }
     ensures no_second { command_read (Line (codes "corr A B 1")) ≡ Err (LineFault.Row (RowFault.Syntax 10)) }
     ensures unknown { command_read (Line (codes "  foo")) ≡ Err (LineFault.Row (RowFault.Syntax 3)) }
+{}
+
+/// Lines that are no queries. Any word may stand where a level is asked for; one that says none is refused only when all
+/// words are read.
+pub fn worked_query_refusals()
+    ensures no_query { command_read (Line (codes "at M")) ≡ Err (LineFault.Syntax 5) }
+    ensures no_edit { command_read (Line (codes "at M undo")) ≡ Err (LineFault.Syntax 6) }
+    ensures no_result { command_read (Line (codes "at M value")) ≡ Err (LineFault.Syntax 11) }
+    ensures no_names { command_read (Line (codes "sens")) ≡ Err (LineFault.Syntax 5) }
+    ensures no_input { command_read (Line (codes "sens Y # X")) ≡ Err (LineFault.Syntax 7) }
+    ensures no_input_name { command_read (Line (codes "at M sens Y 1")) ≡ Err (LineFault.Syntax 13) }
+    ensures third_name { command_read (Line (codes "sens Y X Z")) ≡ Err (LineFault.Syntax 10) }
+    ensures no_variance { command_read (Line (codes "var")) ≡ Err (LineFault.Syntax 4) }
+    ensures no_variance_name { command_read (Line (codes "at M var 5")) ≡ Err (LineFault.Syntax 10) }
+    ensures no_second { command_read (Line (codes "cov Y # Z")) ≡ Err (LineFault.Syntax 6) }
+    ensures no_first_name { command_read (Line (codes "r .V Z")) ≡ Err (LineFault.Syntax 3) }
+    ensures third { command_read (Line (codes "cov Y Z X")) ≡ Err (LineFault.Syntax 9) }
+    ensures two_degrees { command_read (Line (codes "dof Y Z")) ≡ Err (LineFault.Syntax 7) }
+    ensures report_level { command_read (Line (codes "report Y 95")) ≡ Err (LineFault.Syntax 10) }
+    ensures no_level { command_read (Line (codes "expanded Y # 95")) ≡ Err (LineFault.Syntax 11) }
+    ensures level_first { command_read (Line (codes "expanded 95 Y")) ≡ Err (LineFault.Syntax 10) }
+    ensures after_level { command_read (Line (codes "expanded Y 95 %")) ≡ Err (LineFault.Syntax 15) }
+    ensures other_level { command_read (Line (codes "expanded Y 90")) ≡ Err LineFault.Level }
+    ensures same_number { command_read (Line (codes "expanded Y 95.0")) ≡ Err LineFault.Level }
+    ensures level_word { command_read (Line (codes "at M expanded Y L")) ≡ Err LineFault.Level }
+    ensures after_other_level { command_read (Line (codes "expanded Y 90 %")) ≡ Err (LineFault.Syntax 15) }
+    ensures decision { command_read (Line (codes "at M decide Y G 95")) ≡ Err LineFault.NotBuilt }
+    ensures budget { command_read (Line (codes "budget X")) ≡ Err LineFault.NotBuilt }
 {}
 
 /// Replies and their texts.
@@ -136,6 +173,7 @@ pub fn worked_replies()
     ensures beta { text_of_reply (Reply.Line (LineFault.Row RowFault.Beta)) ≡ codes "refused beta\n" }
     ensures level { text_of_reply (Reply.Line (LineFault.Row RowFault.Level)) ≡ codes "refused level\n" }
     ensures dof_range { text_of_reply (Reply.Line (LineFault.Row RowFault.DofRange)) ≡ codes "refused dof_range\n" }
+    ensures query_level { text_of_reply (Reply.Line LineFault.Level) ≡ codes "refused level\n" }
     ensures long { text_of_reply (Reply.Line LineFault.LongLine) ≡ codes "refused long_line\n" }
     ensures coefficient { text_of_reply (Reply.Line (LineFault.Row RowFault.RRange)) ≡ codes "refused r_range\n" }
     ensures few { text_of_reply (Reply.Line (LineFault.Row RowFault.TooFew)) ≡ codes "refused too_few\n" }
@@ -166,4 +204,35 @@ pub fn worked_replies()
     ensures table { text_of_reply (Reply.Said (Answer.Dump (Joint (codes "T") (codes "V" ∷ codes "I" ∷ [])
         ((scaled (pos 1) 0 ∷ scaled (pos 25) 1 ∷ []) ∷ (scaled (pos 3) 0 ∷ scaled (pos 4) 0 ∷ []) ∷ []) ∷ [])))
         ≡ codes "table T\nV,I\n1,2.5\n3,4\nend\nok\n" }
+{}
+
+/// Answers on variances, covariances and correlation coefficients, and their texts.
+pub fn worked_moments()
+    ensures variance { text_of_reply (Reply.Said (Answer.Variance (codes "Y") (record { lo = scaled (pos 5) 1; hi = scaled (pos 7) 0 })))
+        ≡ codes "var Y 0.5 7\n" }
+    ensures covariance { text_of_reply (Reply.Said (Answer.Covariance (codes "Y") (codes "T.V") (record { lo = scaled (negsuc 4) 1; hi = scaled (pos 7) 0 })))
+        ≡ codes "cov Y T.V -0.5 7\n" }
+    ensures negative { text_of_reply (Reply.Said (Answer.Correlation (codes "T.V") (codes "T.I") (CorrSaid.Hundredths (negsuc 35)))) ≡ codes "r T.V T.I -0.36\n" }
+    ensures one { text_of_reply (Reply.Said (Answer.Correlation (codes "A") (codes "B") (CorrSaid.Hundredths (pos 100)))) ≡ codes "r A B 1.00\n" }
+    ensures no_hundredths { text_of_reply (Reply.Said (Answer.Correlation (codes "A") (codes "B") (CorrSaid.Hundredths (pos 0)))) ≡ codes "r A B 0.00\n" }
+    ensures no_coefficient { text_of_reply (Reply.Said (Answer.Correlation (codes "A") (codes "B") CorrSaid.None)) ≡ codes "r A B none\n" }
+    ensures unsettled { text_of_reply (Reply.Said (Answer.Correlation (codes "A") (codes "B") CorrSaid.Unsettled)) ≡ codes "r A B undecided\n" }
+{}
+
+/// Answers on degrees of freedom and on what is reported, and their texts.
+pub fn worked_reports()
+    ensures whole { text_of_reply (Reply.Said (Answer.Degrees (codes "Z") (DofSaid.Whole 4))) ≡ codes "dof Z 4\n" }
+    ensures big { text_of_reply (Reply.Said (Answer.Degrees (codes "Z") DofSaid.Big)) ≡ codes "dof Z big\n" }
+    ensures infinite { text_of_reply (Reply.Said (Answer.Degrees (codes "Z") DofSaid.Infinite)) ≡ codes "dof Z inf\n" }
+    ensures no_degrees { text_of_reply (Reply.Said (Answer.Degrees (codes "Z") DofSaid.None)) ≡ codes "dof Z none\n" }
+    ensures unsettled_degrees { text_of_reply (Reply.Said (Answer.Degrees (codes "Z") DofSaid.Unsettled)) ≡ codes "dof Z undecided\n" }
+    ensures report { text_of_reply (Reply.Said (Answer.Report (codes "Z") (Reported.Rounded (pos 25426) 24 (negsuc 1)))) ≡ codes "report Z 254.26 u 0.24\n" }
+    ensures tens { text_of_reply (Reply.Said (Answer.Report (codes "Z") (Reported.Rounded (negsuc 12) 10 (pos 1)))) ≡ codes "report Z -130 u 100\n" }
+    ensures exact { text_of_reply (Reply.Said (Answer.Report (codes "S") (Reported.Exact (scaled (pos 31) 1)))) ≡ codes "report S 3.1 u 0\n" }
+    ensures unsettled { text_of_reply (Reply.Said (Answer.Report (codes "Z") Reported.Unsettled)) ≡ codes "report Z undecided\n" }
+    ensures expanded { text_of_reply (Reply.Said (Answer.Expanded (codes "Z") (Reported.Rounded (pos 25426) 66 (negsuc 1)) (scaled (pos 278) 2)))
+        ≡ codes "expanded Z 254.26 U 0.66 k 2.78\n" }
+    ensures exact_expanded { text_of_reply (Reply.Said (Answer.Expanded (codes "S") (Reported.Exact (scaled (pos 3) 0)) (scaled (pos 196) 2)))
+        ≡ codes "expanded S 3 U 0 k 1.96\n" }
+    ensures unsettled_expanded { text_of_reply (Reply.Said (Answer.Expanded (codes "Z") Reported.Unsettled (scaled (pos 278) 2))) ≡ codes "expanded Z undecided\n" }
 {}

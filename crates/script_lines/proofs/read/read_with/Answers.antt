@@ -3,7 +3,7 @@ use Rattle.line_text.specs.Words.{words_left}
 use Rattle.answers.specs.declared.command.Query.{Query}
 use Rattle.answers.specs.declared.fault.LineFault.{LineFault}
 use Rattle.answers.specs.declared.fault.LineFault.TheVariants.{OutOfMemory}
-use Rattle.script_lines.specs.Commands.{Read}
+use Rattle.script_lines.specs.Parts.{Read}
 use Rattle.script_lines.proofs.NoMemory.{query_at_never}
 use Rattle.script_lines.proofs.read.read_with.Goals as goal
 

@@ -44,26 +44,6 @@ pub returns-clause-remove : goal.returns-clause-remove
 unfolding line_read row_read reading_of parsed
 returns-clause-remove c = refl
 
-pub returns-clause-value : goal.returns-clause-value
-unfolding line_read row_read reading_of parsed
-returns-clause-value c = refl
-
-pub returns-clause-column : goal.returns-clause-column
-unfolding line_read row_read reading_of parsed
-returns-clause-column c = refl
-
-pub returns-clause-dump : goal.returns-clause-dump
-unfolding line_read row_read reading_of parsed
-returns-clause-dump c = refl
-
-pub returns-clause-at_value : goal.returns-clause-at_value
-unfolding line_read row_read reading_of parsed
-returns-clause-at_value c = refl
-
-pub returns-clause-at_dump : goal.returns-clause-at_dump
-unfolding line_read row_read reading_of parsed
-returns-clause-at_dump c = refl
-
 pub returns-clause-readings : goal.returns-clause-readings
 unfolding line_read row_read reading_of parsed refusal
 returns-clause-readings c = refl
@@ -79,11 +59,3 @@ returns-clause-table c = refl
 pub returns-clause-set_table : goal.returns-clause-set_table
 unfolding csv_on_literals block_read records_read parsed refusal
 returns-clause-set_table c = refl
-
-pub returns-clause-sensitivity : goal.returns-clause-sensitivity
-unfolding line_read row_read reading_of parsed
-returns-clause-sensitivity c = refl
-
-pub returns-clause-at_sensitivity : goal.returns-clause-at_sensitivity
-unfolding line_read row_read reading_of parsed
-returns-clause-at_sensitivity c = refl

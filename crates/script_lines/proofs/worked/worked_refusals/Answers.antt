@@ -32,26 +32,6 @@ pub returns-clause-no_name : goal.returns-clause-no_name
 unfolding line_read row_read reading_of parsed
 returns-clause-no_name c = refl
 
-pub returns-clause-no_query : goal.returns-clause-no_query
-unfolding line_read row_read reading_of parsed
-returns-clause-no_query c = refl
-
-pub returns-clause-no_result : goal.returns-clause-no_result
-unfolding line_read row_read reading_of parsed
-returns-clause-no_result c = refl
-
-pub returns-clause-other_query : goal.returns-clause-other_query
-unfolding line_read row_read reading_of parsed
-returns-clause-other_query c = refl
-
-pub returns-clause-other_result : goal.returns-clause-other_result
-unfolding line_read row_read reading_of parsed
-returns-clause-other_result c = refl
-
-pub returns-clause-no_edit : goal.returns-clause-no_edit
-unfolding line_read row_read reading_of parsed
-returns-clause-no_edit c = refl
-
 pub returns-clause-no_row : goal.returns-clause-no_row
 unfolding line_read row_read reading_of parsed
 returns-clause-no_row c = refl
@@ -107,19 +87,3 @@ returns-clause-table_column c = refl
 pub returns-clause-no_block : goal.returns-clause-no_block
 unfolding line_read
 returns-clause-no_block c = refl
-
-pub returns-clause-no_names : goal.returns-clause-no_names
-unfolding line_read row_read reading_of parsed
-returns-clause-no_names c = refl
-
-pub returns-clause-no_input : goal.returns-clause-no_input
-unfolding line_read row_read reading_of parsed
-returns-clause-no_input c = refl
-
-pub returns-clause-no_input_name : goal.returns-clause-no_input_name
-unfolding line_read row_read reading_of parsed
-returns-clause-no_input_name c = refl
-
-pub returns-clause-third_name : goal.returns-clause-third_name
-unfolding line_read row_read reading_of parsed
-returns-clause-third_name c = refl

@@ -129,3 +129,7 @@ returns-clause-sensitivity c = refl
 pub returns-clause-law_fault : goal.returns-clause-law_fault
 unfolding digits
 returns-clause-law_fault c = refl
+
+pub returns-clause-query_level : goal.returns-clause-query_level
+unfolding digits
+returns-clause-query_level c = refl

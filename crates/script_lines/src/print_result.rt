@@ -1,0 +1,220 @@
+//! The texts of what is answered of quantities.
+
+ghost use Rattle.std.specs.Prelude.{◌≡◌, ◌++◌, OnOk, codes};
+ghost use Rattle.decimal18.specs.Text.{text_of};
+ghost use Rattle.round_out.specs.Printed.{text_at};
+ghost use Rattle.answers.specs.declared.reply.Answer.{Answer};
+ghost use Rattle.script_lines.specs.Texts.{asked_of, asked_of_two, text_of_span, text_of_coefficient, text_of_degrees, text_of_reported, text_of_factor, text_of_answer};
+
+use decimal18::Dec;
+use fixed_interval::Span;
+use formula_ast::Name;
+use itoa::Buffer;
+use line_text::{Bytes, OutOfMemory};
+use round_out::{CorrSaid, Reported, print_at};
+use std::alloc::Global;
+use table_g2::DofSaid;
+
+/// Puts the word of a query and the name that was asked for at the end.
+fn put_asked(text: &mut Bytes, word: &[u8], name: &Name) -> Result<(), OutOfMemory>
+    ensures { OnOk result (text.new ≡ text.old ++ asked_of word.now name.now) }
+{
+    text.extend_from_slice(word)?;
+    text.extend_from_slice(b" ")?;
+    text.extend_from_slice(name.as_bytes())
+}
+
+/// Puts the word of a query and the two names that were asked for at the end.
+fn put_asked_two(
+    text: &mut Bytes,
+    word: &[u8],
+    first: &Name,
+    second: &Name,
+) -> Result<(), OutOfMemory>
+    ensures { OnOk result (text.new ≡ text.old ++ asked_of_two word.now first.now second.now) }
+{
+    put_asked(text, word, first)?;
+    text.extend_from_slice(b" ")?;
+    text.extend_from_slice(second.as_bytes())
+}
+
+/// Puts a number at the end.
+fn put_number(alloc: Global, text: &mut Bytes, number: Dec) -> Result<(), OutOfMemory>
+    ensures { OnOk result (text.new ≡ text.old ++ text_of number) }
+{
+    text.extend_from_slice(number.print(alloc)?.as_slice())
+}
+
+/// Puts `c` units of 10^`e` at the end.
+fn put_at(alloc: Global, text: &mut Bytes, c: i128, e: i8) -> Result<(), OutOfMemory>
+    ensures { OnOk result (text.new ≡ text.old ++ text_at c e) }
+{
+    text.extend_from_slice(print_at(alloc, c, e)?.as_slice())
+}
+
+/// Puts the ends of an interval at the end, and ends the line.
+fn put_span(alloc: Global, text: &mut Bytes, span: &Span) -> Result<(), OutOfMemory>
+    ensures { OnOk result (text.new ≡ text.old ++ text_of_span span.now) }
+{
+    text.extend_from_slice(b" ")?;
+    put_number(alloc, text, span.lo())?;
+    text.extend_from_slice(b" ")?;
+    put_number(alloc, text, span.hi())?;
+    text.extend_from_slice(b"\n")
+}
+
+/// Puts an interval of a quantity at the end.
+pub(crate) fn put_span_of(
+    alloc: Global,
+    text: &mut Bytes,
+    word: &[u8],
+    name: &Name,
+    span: &Span,
+) -> Result<(), OutOfMemory>
+    ensures { OnOk result (text.new ≡ text.old ++ asked_of word.now name.now ++ text_of_span span.now) }
+{
+    put_asked(text, word, name)?;
+    put_span(alloc, text, span)
+}
+
+/// Puts an interval of two quantities, or of a quantity and an input, at the end.
+pub(crate) fn put_span_of_two(
+    alloc: Global,
+    text: &mut Bytes,
+    word: &[u8],
+    first: &Name,
+    second: &Name,
+    span: &Span,
+) -> Result<(), OutOfMemory>
+    ensures { OnOk result (text.new ≡ text.old ++ asked_of_two word.now first.now second.now ++ text_of_span span.now) }
+{
+    put_asked_two(text, word, first, second)?;
+    put_span(alloc, text, span)
+}
+
+/// Puts what is said of a correlation coefficient at the end.
+fn put_coefficient(alloc: Global, text: &mut Bytes, said: &CorrSaid) -> Result<(), OutOfMemory>
+    ensures { OnOk result (text.new ≡ text.old ++ text_of_coefficient said.now) }
+{
+    match said {
+        CorrSaid::None => text.extend_from_slice(b"none"),
+        CorrSaid::Unsettled => text.extend_from_slice(b"undecided"),
+        CorrSaid::Hundredths(d) => put_at(alloc, text, *d as i128, -2),
+    }
+}
+
+/// Puts the correlation coefficient of two quantities at the end.
+pub(crate) fn put_correlation(
+    alloc: Global,
+    text: &mut Bytes,
+    first: &Name,
+    second: &Name,
+    said: &CorrSaid,
+) -> Result<(), OutOfMemory>
+    ensures { OnOk result (text.new ≡ text.old ++ text_of_answer (Answer.Correlation first.now second.now said.now)) }
+{
+    put_asked_two(text, b"r", first, second)?;
+    text.extend_from_slice(b" ")?;
+    put_coefficient(alloc, text, said)?;
+    text.extend_from_slice(b"\n")
+}
+
+/// Puts what is said of degrees of freedom at the end.
+fn put_said_degrees(text: &mut Bytes, said: &DofSaid) -> Result<(), OutOfMemory>
+    ensures { OnOk result (text.new ≡ text.old ++ text_of_degrees said.now) }
+{
+    match said {
+        DofSaid::None => text.extend_from_slice(b"none"),
+        DofSaid::Infinite => text.extend_from_slice(b"inf"),
+        DofSaid::Big => text.extend_from_slice(b"big"),
+        DofSaid::Whole(w) => text.extend_from_slice(Buffer::new().format(*w).as_bytes()),
+        DofSaid::Unsettled => text.extend_from_slice(b"undecided"),
+    }
+}
+
+/// Puts the effective degrees of freedom of a quantity at the end.
+pub(crate) fn put_degrees(text: &mut Bytes, name: &Name, said: &DofSaid) -> Result<(), OutOfMemory>
+    ensures { OnOk result (text.new ≡ text.old ++ text_of_answer (Answer.Degrees name.now said.now)) }
+{
+    put_asked(text, b"dof", name)?;
+    text.extend_from_slice(b" ")?;
+    put_said_degrees(text, said)?;
+    text.extend_from_slice(b"\n")
+}
+
+/// Puts an estimate and its uncertainty, which has this letter, at the end.
+fn put_reported(
+    alloc: Global,
+    text: &mut Bytes,
+    letter: &[u8],
+    said: &Reported,
+) -> Result<(), OutOfMemory>
+    ensures { OnOk result (text.new ≡ text.old ++ text_of_reported letter.now said.now) }
+{
+    match said {
+        Reported::Exact(estimate) => {
+            put_number(alloc, text, *estimate)?;
+            text.extend_from_slice(b" ")?;
+            text.extend_from_slice(letter)?;
+            text.extend_from_slice(b" 0")
+        }
+        Reported::Rounded { estimate, m, e } => {
+            put_at(alloc, text, *estimate, *e)?;
+            text.extend_from_slice(b" ")?;
+            text.extend_from_slice(letter)?;
+            text.extend_from_slice(b" ")?;
+            put_at(alloc, text, *m as i128, *e)
+        }
+        Reported::Unsettled => text.extend_from_slice(b"undecided"),
+    }
+}
+
+/// Puts a quantity and its standard uncertainty at the end.
+pub(crate) fn put_report(
+    alloc: Global,
+    text: &mut Bytes,
+    name: &Name,
+    said: &Reported,
+) -> Result<(), OutOfMemory>
+    ensures { OnOk result (text.new ≡ text.old ++ text_of_answer (Answer.Report name.now said.now)) }
+{
+    put_asked(text, b"report", name)?;
+    text.extend_from_slice(b" ")?;
+    put_reported(alloc, text, b"u", said)?;
+    text.extend_from_slice(b"\n")
+}
+
+/// Puts the coverage factor of an expanded uncertainty at the end, where that is settled.
+fn put_factor(
+    alloc: Global,
+    text: &mut Bytes,
+    said: &Reported,
+    factor: Dec,
+) -> Result<(), OutOfMemory>
+    ensures { OnOk result (text.new ≡ text.old ++ text_of_factor said.now factor) }
+{
+    match said {
+        Reported::Exact(_) | Reported::Rounded { .. } => {
+            text.extend_from_slice(b" k ")?;
+            put_number(alloc, text, factor)
+        }
+        Reported::Unsettled => Ok(()),
+    }
+}
+
+/// Puts a quantity, its expanded uncertainty and the coverage factor at the end.
+pub(crate) fn put_expanded(
+    alloc: Global,
+    text: &mut Bytes,
+    name: &Name,
+    said: &Reported,
+    factor: Dec,
+) -> Result<(), OutOfMemory>
+    ensures { OnOk result (text.new ≡ text.old ++ text_of_answer (Answer.Expanded name.now said.now factor)) }
+{
+    put_asked(text, b"expanded", name)?;
+    text.extend_from_slice(b" ")?;
+    put_reported(alloc, text, b"U", said)?;
+    put_factor(alloc, text, said, factor)?;
+    text.extend_from_slice(b"\n")
+}
