@@ -3,7 +3,13 @@ pub mod Standing
 pub mod Steps
 pub mod Calls
 pub mod Inputs
-pub mod Asked
+pub mod Cells
 pub mod Rebuilding
+pub mod Found
+pub mod GroupDegrees
+pub mod Lawful
 pub mod ReplyLaws
+pub mod Asking
 pub mod Gradients
+pub mod LawNumbers
+pub mod Needed

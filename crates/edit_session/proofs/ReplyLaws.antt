@@ -1,95 +1,162 @@
 -- What the replies of a sheet say of its exact law, and which names are those of results.
-use Rattle.std.specs.Prelude.{◌≡◌, ◌↔◌, ℕ, Bool, true, false, if◌then◌else◌, is_some, bytes_eq, IsTrue, not, List, Option, Some, None, refl}
-use Rattle.std.proofs.Common.{sym, ◌∙◌, ap, ap₂, subst}
+use Rattle.std.specs.Prelude.{◌≡◌, ◌↔◌, ℕ, Bool, true, false, if◌then◌else◌, is_some, bytes_eq, IsTrue, not, List, Option, Some, None, option_map, Result, Ok, Err, IfOk, refl}
+use Rattle.std.proofs.Common.{sym, ◌∙◌, ap, subst}
 use Rattle.std.proofs.lemmas.Bool.{true≢false}
 use Rattle.std.proofs.lemmas.Option.{none-some, same_Some}
-use Rattle.exact_fraction.specs.Number.{ℚ}
-use Rattle.exact_law.specs.Model.{exact_slope}
 use Rattle.fixed_interval.specs.Interval.{Interval}
-use Rattle.fixed_interval.specs.Sums.{Holds}
-use Rattle.fixed_interval.specs.declared.faults.ArithFault.{ArithFault}
+use Rattle.fixed_interval.specs.declared.faults.Overflow.{Overflow}
+use Rattle.round_out.specs.Reports.{expanded_of, reported_of}
+use Rattle.round_out.specs.declared.outcome.Reported.{Reported}
+use Rattle.round_out.specs.declared.outcome.Reported.TheVariants.{Exact, Rounded, Unsettled}
+use Rattle.round_out.proofs.Holding.{reported_holds, expanded_holds, factor_is}
+use Rattle.table_g2.specs.Factors.{column, factor_span}
+use Rattle.table_g2.specs.Said.{said}
+use Rattle.table_g2.specs.Known.{Allows, AreDegrees}
+use Rattle.table_g2.specs.declared.known.Level.{Level}
+use Rattle.table_g2.specs.declared.known.Nu.{Nu}
+use Rattle.table_g2.proofs.Enclosed.{span_encloses}
+use Rattle.table_g2.proofs.SaidRanges.{answer_holds}
+use Rattle.exact_fraction.specs.Number.{ℚ}
+use Rattle.decimal18.specs.Bound.{Bound, value_of}
 use Rattle.sheet_rows.specs.Rows.{Sheet}
 use Rattle.sheet_rows.specs.Sheets.{has_quantity, has_input, IsStanding}
 use Rattle.value_cache.specs.Evaluations.{evaluation_of}
-use Rattle.value_cache.specs.Model.{model_of}
+use Rattle.value_cache.specs.Model.{HasValueIn}
 use Rattle.value_cache.specs.declared.evaluation.Evaluation.{Evaluation}
 use Rattle.value_cache.specs.declared.evaluation.Evaluation.TheVariants.{Enclosed, Fault}
-use Rattle.value_cache.proofs.Sound.{values_enclosed}
-use Rattle.adjoint_pass.specs.Sensitivities.{sensitivity_of, has_gradient}
-use Rattle.adjoint_pass.proofs.Enclosed.{slopes_enclosed}
+use Rattle.covariance.specs.Gradients.{Spans, sensitivity}
+use Rattle.covariance.specs.Variances.{combined_variance_span, combined_covariance_span}
+use Rattle.adjoint_pass.specs.Sensitivities.{has_gradient, gradient_of}
 use Rattle.answers.specs.Commands.{Command, Change, Undo, Redo, Mark, Restore, Ask as AskPresent, AskAt}
+use Rattle.sheet_rows.specs.Regular.{AreRegular}
+use Rattle.answers.specs.Replies.{IsRegularAnswer}
 use Rattle.answers.specs.declared.command.Query.{Query}
-use Rattle.answers.specs.declared.command.Query.TheVariants.{Value as AskValue, Sensitivity as AskSensitivity, Dump as AskDump}
+use Rattle.answers.specs.declared.command.Query.TheVariants.{Value as AskValue, Variance as AskVariance, Covariance as AskCovariance, Correlation as AskCorrelation, Sensitivity as AskSensitivity, Degrees as AskDegrees, Report as AskReport, Expanded as AskExpanded, Dump as AskDump}
 use Rattle.answers.specs.declared.fault.AskFault.TheVariants.{NoSuchResult}
 use Rattle.answers.specs.declared.reply.Answer.{Answer}
-use Rattle.answers.specs.declared.reply.Answer.TheVariants.{Value, Sensitivity, ValueFault}
+use Rattle.answers.specs.declared.reply.Answer.TheVariants.{Value, Variance, Covariance, Correlation, Sensitivity, Degrees, Report, Expanded, Dump, ValueFault, LawOverflow}
 use Rattle.answers.specs.declared.reply.Reply.{Reply}
 use Rattle.answers.specs.declared.reply.Reply.TheVariants.{Ask, Said}
 use Rattle.sheet_model.specs.Quantities.{quantities}
-use Rattle.edit_session.specs.Replies.{asked_of, after_value, after_gradient, law_reply, value_reply, slope_reply, sensitivity_reply, reply_to, unknown_result}
+use Rattle.sheet_model.specs.Groups.{groups}
+use Rattle.sheet_model.proofs.Names.{there-is_quantity}
+use Rattle.sheet_model.proofs.Walking.{evaluable}
+use Rattle.sheet_model.proofs.Inputs.{sheet_input}
+use Rattle.edit_session.specs.Replies.{Stop, Unknown, Faulted, OutOfRange, Found, and_then, in_range, value_by, value_in, gradient_in, variance_in, covariance_in, correlation_in, degrees_in, answer_of_one, answer_of_two, expanded_by, expanded_in, answer_in, unless_there, unknown_result, reply_of_stop, reply_of, reply_by, reply_to}
 use Rattle.edit_session.specs.Machine.{State, kept_as, step, reply_at}
-use Rattle.edit_session.specs.Sound.{HasSensitivityIn, IsSoundAnswer, IsSoundReply, asked, IsSoundOn}
+use Rattle.edit_session.specs.Sound.{IsFactor, HasExpandedIn, exact_value_in, factor_in, law_in, exact_degrees_in, IsSoundAnswer, IsSoundReply, asked, IsSoundOn}
 use Rattle.edit_session.specs.Standing.{IsStandingState}
 use Rattle.edit_session.specs.Calls.{is_refusal}
 use Rattle.edit_session.proofs.Standing.{kept-standing}
-use Rattle.sheet_model.proofs.Names.{there-is_quantity}
-use Rattle.sheet_model.proofs.Formulas.{same_names}
-use Rattle.sheet_model.proofs.Walking.{exponents_of_rows, evaluable, quantities_in_order}
-use Rattle.sheet_model.proofs.Inputs.{sheet_input}
-use Rattle.edit_session.proofs.Inputs.{names_apart}
+use Rattle.edit_session.proofs.Found.{if_then, if_in_range, of_ok, IsKnown, known_then, known_range}
+use Rattle.edit_session.proofs.Lawful.{gradient_by, HasSlopes, value_holds, one_holds, two_holds, IsVariance, variance_holds, covariance_holds, correlation_holds, degrees_hold}
 
--- ---- soundness: a reply is sound if what it goes on with is
-module _ (sheet : Sheet) where
-  asked_sound : (there : Bool) (name : List ℕ) (reply : Reply) → (there ≡ true → IsSoundReply sheet reply) → IsSoundReply sheet (asked_of there name reply)
-  asked_sound true name reply h = h refl
-  asked_sound false name reply h = tt
+-- ---- names that are there
+pub there_of_one : (there : Bool) (name : List ℕ) → unless_there there name None ≡ None → there ≡ true
+there_of_one true name e = refl
+there_of_one false name e = absurd (none-some name (sym e))
 
-  value_sound : (name : List ℕ) (found : Option (Evaluation (List ℕ))) (reply : Interval → Reply)
-      → ((s : Interval) → found ≡ Some (Enclosed s) → IsSoundReply sheet (reply s)) → IsSoundReply sheet (after_value name found reply)
-  value_sound name None reply h = tt
-  value_sound name (Some (Fault fault row)) reply h = tt
-  value_sound name (Some (Enclosed s)) reply h = h s refl
+pub there_of_two : (first second : Bool) (y z : List ℕ) → unless_there first y (unless_there second z None) ≡ None → (first ≡ true) × (second ≡ true)
+there_of_two true second y z e = (refl, there_of_one second z e)
+there_of_two false second y z e = absurd (none-some y (sym e))
 
-  gradient_sound : (there : Bool) (reply : Reply) → IsSoundReply sheet reply → IsSoundReply sheet (after_gradient there reply)
-  gradient_sound true reply h = h
-  gradient_sound false reply h = tt
+-- ---- soundness
+factor_said : (reported : Reported) (k : Bound) (f : ℚ) → ((reported ≡ Unsettled → ⊥) → value_of k ≡ f) → IsFactor reported k f
+factor_said (Exact estimate) k f h = h (λ e. cc)
+factor_said (Rounded estimate m e) k f h = h (λ e. cc)
+factor_said Unsettled k f h = tt
 
-  law_sound : (answer : Interval → Answer) (o : Option Interval) → ((s : Interval) → o ≡ Some s → IsSoundAnswer sheet (answer s))
-      → IsSoundReply sheet (law_reply answer o)
-  law_sound answer None h = tt
-  law_sound answer (Some s) h = h s refl
+module _ (sheet : Sheet) (h : IsStanding sheet) where
+  expanded_sound : (y : List ℕ) (level : Level) (value : Interval) → HasValueIn bytes_eq (quantities sheet) y value → HasSlopes sheet y
+      → IfOk (expanded_in sheet y level value (gradient_by sheet y)) (IsSoundAnswer sheet (AskExpanded y level))
+  expanded_sound y level value holds s =
+      let P = IsSoundAnswer sheet (AskExpanded y level) in
+      if_then (degrees_in sheet (gradient_by sheet y)) _ P
+      (λ nu e. if_then (variance_in sheet (gradient_by sheet y)) _ P
+      (λ v f. if_then (in_range (expanded_of value v (factor_span nu level))) _ P (λ reported g. (level, (refl, of_reported nu e v f reported (there_of _ reported g))))))
+    where
+      there_of : (r : _) (reported : Reported) → in_range r ≡ Ok reported → r ≡ Ok reported
+      there_of (Ok x) reported g = cc
+      there_of (Err x) reported g = cc
 
--- the span of a sensitivity encloses the derivative, where the quantity has a value
-pub slope_sound : (sheet : Sheet) → IsStanding sheet → (y x : List ℕ) → has_quantity sheet y ≡ true → has_input sheet x ≡ true
-    → (v : Interval) → evaluation_of bytes_eq (quantities sheet) y ≡ Some (Enclosed v)
-    → (s : Interval) → sensitivity_of bytes_eq (quantities sheet) y x ≡ Some s → HasSensitivityIn bytes_eq (quantities sheet) y x s
-slope_sound sheet h y x there input v e s f =
-    let given = sheet_input sheet h x input in
-    let slope : ℚ = exact_slope bytes_eq (model_of (quantities sheet)) y x in
-    let P : Option Interval → Type 0 = λ o. Holds o slope in
-    record {
-      defined = (values_enclosed bytes_eq (quantities sheet) (exponents_of_rows sheet.rows h.regular) y v e).defined;
-      enclosed =
-          subst P f
-          (slopes_enclosed bytes_eq same_names (quantities sheet) (quantities_in_order sheet h) (exponents_of_rows sheet.rows h.regular) (names_apart sheet.rows)
-          y (there-is_quantity sheet.rows y ∙ there) x given.estimate given.is);
-    }
+      of_reported : (nu : Nu) → degrees_in sheet (gradient_by sheet y) ≡ Ok nu → (v : Interval) → variance_in sheet (gradient_by sheet y) ≡ Ok v
+          → (reported : Reported) → expanded_of value v (factor_span nu level) ≡ Ok reported → HasExpandedIn sheet y level reported (factor_span nu level).lo
+      of_reported nu e v f reported g =
+          let degrees = of_ok (degrees_in sheet (gradient_by sheet y)) (λ n. Allows n (exact_degrees_in sheet y) × AreDegrees n) (degrees_hold sheet h y s) nu e in
+          let k = span_encloses nu level (exact_degrees_in sheet y) degrees.0 in
+          let variance = of_ok (variance_in sheet (gradient_by sheet y)) (IsVariance sheet h y) (variance_holds sheet h y s) v f in
+          record {
+            defined = holds.defined;
+            said = expanded_holds value v (factor_span nu level) (exact_value_in sheet y) (law_in sheet y y) (factor_in sheet y level) holds.enclosed variance.0 k reported g;
+            factor = factor_said reported (factor_span nu level).lo (factor_in sheet y level) (factor_is value v (factor_span nu level) (factor_in sheet y level) k reported g);
+          }
 
-pub reply_sound : (sheet : Sheet) → IsStanding sheet → (query : Query) → IsSoundReply sheet (reply_to sheet query)
-reply_sound sheet h (AskValue name) =
-    asked_sound sheet (has_quantity sheet name) name (value_reply sheet name)
-    (λ there. value_sound sheet name (evaluation_of bytes_eq (quantities sheet) name) (λ span. Said (Value name span))
-    (λ s e. values_enclosed bytes_eq (quantities sheet) (exponents_of_rows sheet.rows h.regular) name s e))
-reply_sound sheet h (AskSensitivity y x) =
-    asked_sound sheet (has_quantity sheet y) y (asked_of (has_input sheet x) x (sensitivity_reply sheet y x))
-    (λ there. asked_sound sheet (has_input sheet x) x (sensitivity_reply sheet y x)
-    (λ input. value_sound sheet y (evaluation_of bytes_eq (quantities sheet) y) (λ span. slope_reply sheet y x)
-    (λ v e. gradient_sound sheet (has_gradient bytes_eq (quantities sheet) y) (law_reply (Sensitivity y x) (sensitivity_of bytes_eq (quantities sheet) y x))
-    (law_sound sheet (Sensitivity y x) (sensitivity_of bytes_eq (quantities sheet) y x) (λ s f. slope_sound sheet h y x there input v e s f)))))
-reply_sound sheet h AskDump = tt
+  pub answer_sound : (query : Query) → unknown_result sheet query ≡ None → IfOk (answer_in sheet query) (IsSoundAnswer sheet query)
+  answer_sound (AskValue y) e =
+      if_then (value_in sheet y) _ (IsSoundAnswer sheet (AskValue y))
+      (λ value f. (refl, of_ok (value_in sheet y) (HasValueIn bytes_eq (quantities sheet) y) (value_holds sheet h y) value f))
+  answer_sound (AskVariance y) e =
+      one_holds sheet h y (there_of_one (has_quantity sheet y) y e) _ (IsSoundAnswer sheet (AskVariance y))
+      (λ value holds s. if_then (variance_in sheet (gradient_by sheet y)) _ (IsSoundAnswer sheet (AskVariance y))
+      (λ v f. let is = of_ok (variance_in sheet (gradient_by sheet y)) (IsVariance sheet h y) (variance_holds sheet h y s) v f in
+      (refl, record { defined = holds.defined; enclosed = is.0; not_negative = is.1 })))
+  answer_sound (AskCovariance y z) e =
+      let there = there_of_two (has_quantity sheet y) (has_quantity sheet z) y z e in
+      two_holds sheet h y z there.0 there.1 _ (IsSoundAnswer sheet (AskCovariance y z))
+      (λ v w first second s t. if_then (covariance_in sheet (gradient_by sheet y) (gradient_by sheet z)) _ (IsSoundAnswer sheet (AskCovariance y z))
+      (λ c f. (
+        refl,
+        record {
+          first = first.defined;
+          second = second.defined;
+          enclosed = of_ok (covariance_in sheet (gradient_by sheet y) (gradient_by sheet z)) _ (covariance_holds sheet h y z s t) c f;
+        },
+      )))
+  answer_sound (AskCorrelation y z) e =
+      let there = there_of_two (has_quantity sheet y) (has_quantity sheet z) y z e in
+      two_holds sheet h y z there.0 there.1 _ (IsSoundAnswer sheet (AskCorrelation y z))
+      (λ v w first second s t. if_then (correlation_in sheet (gradient_by sheet y) (gradient_by sheet z)) _ (IsSoundAnswer sheet (AskCorrelation y z))
+      (λ r f. (
+        refl,
+        record {
+          first = first.defined;
+          second = second.defined;
+          said = of_ok (correlation_in sheet (gradient_by sheet y) (gradient_by sheet z)) _ (correlation_holds sheet h y z s t) r f;
+        },
+      )))
+  answer_sound (AskSensitivity y x) e =
+      let there = there_of_two (has_quantity sheet y) (has_input sheet x) y x e in
+      let given = sheet_input sheet h x there.1 in
+      one_holds sheet h y there.0 _ (IsSoundAnswer sheet (AskSensitivity y x))
+      (λ value holds s. (refl, record { defined = holds.defined; enclosed = s x given.estimate given.is }))
+  answer_sound (AskDegrees y) e =
+      one_holds sheet h y (there_of_one (has_quantity sheet y) y e) _ (IsSoundAnswer sheet (AskDegrees y))
+      (λ value holds s. if_then (degrees_in sheet (gradient_by sheet y)) _ (IsSoundAnswer sheet (AskDegrees y))
+      (λ nu f. let degrees = of_ok (degrees_in sheet (gradient_by sheet y)) (λ n. Allows n (exact_degrees_in sheet y) × AreDegrees n) (degrees_hold sheet h y s) nu f in
+      (refl, record { defined = holds.defined; said = answer_holds nu (said nu) refl degrees.1 (exact_degrees_in sheet y) degrees.0 })))
+  answer_sound (AskReport y) e =
+      one_holds sheet h y (there_of_one (has_quantity sheet y) y e) _ (IsSoundAnswer sheet (AskReport y))
+      (λ value holds s. if_then (variance_in sheet (gradient_by sheet y)) _ (IsSoundAnswer sheet (AskReport y))
+      (λ v f. let is = of_ok (variance_in sheet (gradient_by sheet y)) (IsVariance sheet h y) (variance_holds sheet h y s) v f in
+      (refl, record { defined = holds.defined; said = reported_holds value v (exact_value_in sheet y) (law_in sheet y y) holds.enclosed is.0 })))
+  answer_sound (AskExpanded y level) e =
+      one_holds sheet h y (there_of_one (has_quantity sheet y) y e) _ (IsSoundAnswer sheet (AskExpanded y level)) (expanded_sound y level)
+  answer_sound AskDump e = (refl, refl)
+
+  pub reply_sound : (query : Query) → IsSoundReply sheet query (reply_to sheet query)
+  reply_sound query = by (unknown_result sheet query) refl where
+    of_found : (found : Found Answer) → IfOk found (IsSoundAnswer sheet query) → IsSoundReply sheet query (reply_of found)
+    of_found (Ok answer) k = k
+    of_found (Err (Unknown name)) k = tt
+    of_found (Err (Faulted fault row)) k = tt
+    of_found (Err OutOfRange) k = tt
+
+    by : (o : Option (List ℕ)) → unknown_result sheet query ≡ o → IsSoundReply sheet query (reply_by o (answer_in sheet query))
+    by (Some name) e = tt
+    by None e = of_found (answer_in sheet query) (answer_sound query e)
 
 kept_sound : (state : State) → IsStandingState state → (name : List ℕ) (query : Query) (o : Option Sheet) → kept_as state.marks name ≡ o
-    → IsSoundOn o (reply_at name o query)
+    → IsSoundOn (option_map (λ sheet. (sheet, query)) o) (reply_at name o query)
 kept_sound state h name query None e = tt
 kept_sound state h name query (Some sheet) e = reply_sound sheet (kept-standing state.marks name sheet e h.marks) query
 
@@ -102,113 +169,108 @@ command_sound state h (Restore name) = tt
 command_sound state h (AskPresent query) = reply_sound state.present h.present query
 command_sound state h (AskAt name query) = kept_sound state h name query (kept_as state.marks name) refl
 
--- ---- replies to queries whose names are those of results
-pub value_asked : (sheet : Sheet) (name : List ℕ) → has_quantity sheet name ≡ true → reply_to sheet (AskValue name) ≡ value_reply sheet name
-value_asked sheet name there = ap (λ b. asked_of b name (value_reply sheet name)) there
+-- ---- what is answered to a query is regular
+pub sound_regular : (sheet : Sheet) → IsStanding sheet → (query : Query) (answer : Answer) → IsSoundAnswer sheet query answer → IsRegularAnswer answer
+sound_regular sheet h query (Value y s) k = tt
+sound_regular sheet h query (Variance y s) k = tt
+sound_regular sheet h query (Covariance y z s) k = tt
+sound_regular sheet h query (Correlation y z r) k = tt
+sound_regular sheet h query (Sensitivity y x s) k = tt
+sound_regular sheet h query (Degrees y nu) k = tt
+sound_regular sheet h query (Report y reported) k = tt
+sound_regular sheet h query (Expanded y reported factor) k = tt
+sound_regular sheet h query (Dump rows) k = subst AreRegular (sym k.1) h.regular
+sound_regular sheet h query (ValueFault fault row) k = tt
+sound_regular sheet h query LawOverflow k = tt
 
-pub sensitivity_asked : (sheet : Sheet) (y x : List ℕ) → has_quantity sheet y ≡ true → has_input sheet x ≡ true
-    → reply_to sheet (AskSensitivity y x) ≡ sensitivity_reply sheet y x
-sensitivity_asked sheet y x there input = ap₂ (λ a b. asked_of a y (asked_of b x (sensitivity_reply sheet y x))) there input
-
-pub value_said : (sheet : Sheet) (name : List ℕ) → has_quantity sheet name ≡ true → (s : Interval)
-    → evaluation_of bytes_eq (quantities sheet) name ≡ Some (Enclosed s) → Said (Value name s) ≡ reply_to sheet (AskValue name)
-value_said sheet name there s e =
-    ap (λ o. after_value name o (λ span. Said (Value name span))) (sym e) ∙ sym (value_asked sheet name there)
-
-pub fault_said : (sheet : Sheet) (name : List ℕ) → has_quantity sheet name ≡ true → (fault : ArithFault) (row : List ℕ)
-    → evaluation_of bytes_eq (quantities sheet) name ≡ Some (Fault fault row) → Said (ValueFault fault row) ≡ reply_to sheet (AskValue name)
-fault_said sheet name there fault row e =
-    ap (λ o. after_value name o (λ span. Said (Value name span))) (sym e) ∙ sym (value_asked sheet name there)
-
-pub slope_said : (sheet : Sheet) (y x : List ℕ) → has_quantity sheet y ≡ true → has_input sheet x ≡ true
-    → (v : Interval) → evaluation_of bytes_eq (quantities sheet) y ≡ Some (Enclosed v) → has_gradient bytes_eq (quantities sheet) y ≡ true
-    → (s : Interval) → sensitivity_of bytes_eq (quantities sheet) y x ≡ Some s → Said (Sensitivity y x s) ≡ reply_to sheet (AskSensitivity y x)
-slope_said sheet y x there input v e whole s f =
-    ap (law_reply (Sensitivity y x)) (sym f)
-    ∙ ap (λ b. after_gradient b (law_reply (Sensitivity y x) (sensitivity_of bytes_eq (quantities sheet) y x))) (sym whole)
-    ∙ ap (λ o. after_value y o (λ span. slope_reply sheet y x)) (sym e) ∙ sym (sensitivity_asked sheet y x there input)
-
--- ---- refusals: a name has a reply exactly where it is that of a result
+-- ---- refusals: a query is refused exactly where a name in it is that of no result
 -- a quantity of a sheet that stands has an evaluation
-pub evaluated : (sheet : Sheet) → IsStanding sheet → (name : List ℕ) → is_some (evaluation_of bytes_eq (quantities sheet) name) ≡ has_quantity sheet name
-evaluated sheet h name = (evaluable sheet h).found name ∙ there-is_quantity sheet.rows name
+pub evaluated : (sheet : Sheet) → IsStanding sheet → (y : List ℕ) → is_some (evaluation_of bytes_eq (quantities sheet) y) ≡ has_quantity sheet y
+evaluated sheet h y = (evaluable sheet h).found y ∙ there-is_quantity sheet.rows y
+
+value_known : (sheet : Sheet) → IsStanding sheet → (y : List ℕ) → has_quantity sheet y ≡ true → IsKnown (value_in sheet y)
+value_known sheet h y there = by (evaluation_of bytes_eq (quantities sheet) y) (evaluated sheet h y ∙ there) where
+  by : (o : Option (Evaluation (List ℕ))) → is_some o ≡ true → IsKnown (value_by y o)
+  by None e = absurd (true≢false (sym e))
+  by (Some (Fault fault row)) e = tt
+  by (Some (Enclosed s)) e = tt
+
+gradient_known : (sheet : Sheet) (y : List ℕ) → IsKnown (gradient_in sheet y)
+gradient_known sheet y = by (has_gradient bytes_eq (quantities sheet) y) where
+  by : (t : Bool) → IsKnown {A = Spans (List ℕ)} (if t then Ok (gradient_by sheet y) else Err OutOfRange)
+  by true = tt
+  by false = tt
+
+one_known : (sheet : Sheet) → IsStanding sheet → (y : List ℕ) → unless_there (has_quantity sheet y) y None ≡ None
+    → (answer : Interval → Spans (List ℕ) → Found Answer) → ((value : Interval) (dy : Spans (List ℕ)) → IsKnown (answer value dy))
+    → IsKnown (answer_of_one sheet y answer)
+one_known sheet h y e answer k =
+    known_then (value_in sheet y) (λ value. and_then (gradient_in sheet y) (λ dy. answer value dy))
+    (value_known sheet h y (there_of_one (has_quantity sheet y) y e))
+    (λ value. known_then (gradient_in sheet y) (λ dy. answer value dy) (gradient_known sheet y) (k value))
+
+two_known : (sheet : Sheet) → IsStanding sheet → (y z : List ℕ) → unless_there (has_quantity sheet y) y (unless_there (has_quantity sheet z) z None) ≡ None
+    → (answer : Spans (List ℕ) → Spans (List ℕ) → Found Answer) → ((dy dz : Spans (List ℕ)) → IsKnown (answer dy dz))
+    → IsKnown (answer_of_two sheet y z answer)
+two_known sheet h y z e answer k =
+    let there = there_of_two (has_quantity sheet y) (has_quantity sheet z) y z e in
+    known_then (value_in sheet y) _ (value_known sheet h y there.0)
+    (λ first. known_then (value_in sheet z) _ (value_known sheet h z there.1)
+    (λ second. known_then (gradient_in sheet y) _ (gradient_known sheet y) (λ dy. known_then (gradient_in sheet z) _ (gradient_known sheet z) (λ dz. k dy dz))))
+
+range_known : {A : Type 0} (r : Result A Overflow) (next : A → Answer) → IsKnown (and_then (in_range r) (λ x. Ok (next x)))
+range_known r next = known_then (in_range r) (λ x. Ok (next x)) (known_range r) (λ x. tt)
+
+answer_known : (sheet : Sheet) → IsStanding sheet → (query : Query) → unknown_result sheet query ≡ None → IsKnown (answer_in sheet query)
+answer_known sheet h (AskValue y) e = known_then (value_in sheet y) _ (value_known sheet h y (there_of_one (has_quantity sheet y) y e)) (λ value. tt)
+answer_known sheet h (AskVariance y) e = one_known sheet h y e _ (λ value dy. range_known _ (Variance y))
+answer_known sheet h (AskCovariance y z) e = two_known sheet h y z e _ (λ dy dz. range_known _ (Covariance y z))
+answer_known sheet h (AskCorrelation y z) e =
+    two_known sheet h y z e _
+    (λ dy dz. known_then (correlation_in sheet dy dz) _
+    (known_then (covariance_in sheet dy dz) _ (known_range _) (λ c. known_then (variance_in sheet dy) _ (known_range _)
+    (λ v. known_then (variance_in sheet dz) _ (known_range _) (λ w. known_range _)))) (λ r. tt))
+answer_known sheet h (AskSensitivity y x) e =
+    one_known sheet h y (ap (λ b. unless_there b y None) (there_of_two (has_quantity sheet y) (has_input sheet x) y x e).0) _ (λ value dy. tt)
+answer_known sheet h (AskDegrees y) e = one_known sheet h y e _ (λ value dy. range_known _ (λ nu. Degrees y (said nu)))
+answer_known sheet h (AskReport y) e = one_known sheet h y e _ (λ value dy. range_known _ (λ v. Report y (reported_of value v)))
+answer_known sheet h (AskExpanded y level) e =
+    one_known sheet h y e _
+    (λ value dy. known_then (degrees_in sheet dy) _ (known_range _)
+    (λ nu. known_then (variance_in sheet dy) _ (known_range _) (λ v. range_known _ (λ reported. Expanded y reported (factor_span nu level).lo))))
+answer_known sheet h AskDump e = tt
 
 -- the reply is no refusal
 abbrev pub IsFine : Reply → Type 0
 IsFine reply = IsTrue (not (is_refusal reply))
 
-asked_fine : (there : Bool) (name : List ℕ) (reply : Reply) → there ≡ true → IsFine reply → IsFine (asked_of there name reply)
-asked_fine true name reply e h = h
-asked_fine false name reply e h = absurd (true≢false (sym e))
+found_fine : (found : Found Answer) → IsKnown found → IsFine (reply_of found)
+found_fine (Ok answer) h = refl
+found_fine (Err (Unknown name)) h = absurd h
+found_fine (Err (Faulted fault row)) h = refl
+found_fine (Err OutOfRange) h = refl
 
-value_fine : (name : List ℕ) (found : Option (Evaluation (List ℕ))) (reply : Interval → Reply) → is_some found ≡ true → ((s : Interval) → IsFine (reply s))
-    → IsFine (after_value name found reply)
-value_fine name None reply e h = absurd (true≢false (sym e))
-value_fine name (Some (Enclosed s)) reply e h = h s
-value_fine name (Some (Fault fault row)) reply e h = refl
-
-law_fine : (answer : Interval → Answer) (o : Option Interval) → IsFine (law_reply answer o)
-law_fine answer None = refl
-law_fine answer (Some s) = refl
-
-gradient_fine : (there : Bool) (reply : Reply) → IsFine reply → IsFine (after_gradient there reply)
-gradient_fine true reply h = h
-gradient_fine false reply h = refl
-
-slope_fine : (sheet : Sheet) (y x : List ℕ) → IsFine (slope_reply sheet y x)
-slope_fine sheet y x =
-    gradient_fine (has_gradient bytes_eq (quantities sheet) y) (law_reply (Sensitivity y x) (sensitivity_of bytes_eq (quantities sheet) y x))
-    (law_fine (Sensitivity y x) (sensitivity_of bytes_eq (quantities sheet) y x))
-
-found_fine : (sheet : Sheet) → IsStanding sheet → (name : List ℕ) → has_quantity sheet name ≡ true → IsFine (value_reply sheet name)
-found_fine sheet h name e =
-    value_fine name (evaluation_of bytes_eq (quantities sheet) name) (λ span. Said (Value name span)) (evaluated sheet h name ∙ e) (λ s. refl)
-
-pub slopes_fine : (sheet : Sheet) → IsStanding sheet → (y x : List ℕ) → has_quantity sheet y ≡ true → IsFine (sensitivity_reply sheet y x)
-slopes_fine sheet h y x e =
-    value_fine y (evaluation_of bytes_eq (quantities sheet) y) (λ span. slope_reply sheet y x) (evaluated sheet h y ∙ e) (λ s. slope_fine sheet y x)
-
--- the reply is no refusal where each name in the query is that of a result
+-- where each name in the query is that of a result
 pub fine_reply : (sheet : Sheet) → IsStanding sheet → (query : Query) → unknown_result sheet query ≡ None → IsFine (reply_to sheet query)
-fine_reply sheet h (AskValue name) e = by (has_quantity sheet name) refl e where
-  by : (there : Bool) → has_quantity sheet name ≡ there → (if there then None else Some name) ≡ None → IsFine (asked_of there name (value_reply sheet name))
-  by true f none = found_fine sheet h name f
-  by false f none = absurd (none-some name (sym none))
-fine_reply sheet h (AskSensitivity y x) e = by (has_quantity sheet y) refl (has_input sheet x) e where
-  by : (there : Bool) → has_quantity sheet y ≡ there → (input : Bool) → (if there then (if input then None else Some x) else Some y) ≡ None
-      → IsFine (asked_of there y (asked_of input x (sensitivity_reply sheet y x)))
-  by true f true none = slopes_fine sheet h y x f
-  by true f false none = absurd (none-some x (sym none))
-  by false f input none = absurd (none-some y (sym none))
-fine_reply sheet h AskDump e = refl
+fine_reply sheet h query e =
+    subst (λ o. IsFine (reply_by o (answer_in sheet query))) (sym e) (found_fine (answer_in sheet query) (answer_known sheet h query e))
 
--- ---- and is the refusal of the first other name
 no_result : (reply : Reply) (name : List ℕ) → IsFine reply → reply ≡ Ask (NoSuchResult name) → ⊥
 no_result reply name h e = true≢false (sym (subst IsFine e h))
 
-abbrev Tells : Reply → Option (List ℕ) → List ℕ → Type 0
-Tells reply unknown name = (reply ≡ Ask (NoSuchResult name)) ↔ (unknown ≡ Some name)
-
-fine_tells : (reply : Reply) (name : List ℕ) → IsFine reply → Tells reply None name
-fine_tells reply name h = (λ e. absurd (no_result reply name h e), λ e. absurd (none-some name e))
-
-asked_tells : (there : Bool) (own : List ℕ) (reply : Reply) (rest : Option (List ℕ)) (name : List ℕ) → (there ≡ true → Tells reply rest name)
-    → Tells (asked_of there own reply) (if there then rest else Some own) name
-asked_tells true own reply rest name h = h refl
-asked_tells false own reply rest name h = (λ e. ap Some (cc), λ e. ap (λ n. Ask (NoSuchResult n)) (same_Some own name e))
-
-pub unknown_tells : (sheet : Sheet) → IsStanding sheet → (query : Query) (name : List ℕ) → Tells (reply_to sheet query) (unknown_result sheet query) name
-unknown_tells sheet h (AskValue own) name =
-    asked_tells (has_quantity sheet own) own (value_reply sheet own) None name (λ e. fine_tells (value_reply sheet own) name (found_fine sheet h own e))
-unknown_tells sheet h (AskSensitivity y x) name =
-    asked_tells (has_quantity sheet y) y (asked_of (has_input sheet x) x (sensitivity_reply sheet y x)) (if has_input sheet x then None else Some x) name
-    (λ e. asked_tells (has_input sheet x) x (sensitivity_reply sheet y x) None name
-    (λ f. fine_tells (sensitivity_reply sheet y x) name (slopes_fine sheet h y x e)))
-unknown_tells sheet h AskDump name = fine_tells (reply_to sheet AskDump) name refl
+pub unknown_tells : (sheet : Sheet) → IsStanding sheet → (query : Query) (name : List ℕ)
+    → (reply_to sheet query ≡ Ask (NoSuchResult name)) ↔ (unknown_result sheet query ≡ Some name)
+unknown_tells sheet h query name = by (unknown_result sheet query) refl where
+  by : (o : Option (List ℕ)) → unknown_result sheet query ≡ o → (reply_by o (answer_in sheet query) ≡ Ask (NoSuchResult name)) ↔ (o ≡ Some name)
+  by (Some own) e = (λ f. ap Some (cc), λ f. ap (λ n. Ask (NoSuchResult n)) (same_Some own name f))
+  by None e = (λ f. absurd (no_result (reply_of (answer_in sheet query)) name (found_fine (answer_in sheet query) (answer_known sheet h query e)) f), λ f. absurd (none-some name f))
 
 pub unknown_exactly : (sheet : Sheet) → IsStanding sheet → (name : List ℕ)
     → (reply_to sheet (AskValue name) ≡ Ask (NoSuchResult name)) ↔ (has_quantity sheet name ≡ false)
-unknown_exactly sheet h name = by (has_quantity sheet name) refl where
-  by : (there : Bool) → has_quantity sheet name ≡ there → (asked_of there name (value_reply sheet name) ≡ Ask (NoSuchResult name)) ↔ (there ≡ false)
-  by true e = (λ r. absurd (no_result (value_reply sheet name) name (found_fine sheet h name e) r), λ f. absurd (true≢false f))
-  by false e = (λ r. refl, λ f. refl)
+unknown_exactly sheet h name =
+    let tells = unknown_tells sheet h (AskValue name) name in
+    (λ e. missing (has_quantity sheet name) (tells.0 e), λ e. tells.1 (ap (λ b. unless_there b name None) e))
+  where
+    missing : (there : Bool) → unless_there there name None ≡ Some name → there ≡ false
+    missing true e = absurd (none-some name e)
+    missing false e = refl

@@ -5,5 +5,5 @@ pub mod Live
 pub mod Standing
 pub mod States
 pub mod Calls
-pub mod Gradients
+pub mod Asking
 pub mod Rebuild

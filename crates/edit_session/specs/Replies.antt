@@ -1,62 +1,150 @@
--- The reply of a sheet to a query.
-use Rattle.std.specs.Prelude.{ℕ, Bool, if◌then◌else◌, List, Option, None, Some, bytes_eq}
+-- The reply of a sheet to a query. Which refusal, fault or overflow stands in the place of an answer, where several might,
+-- is this project's own rule.
+use Rattle.std.specs.Prelude.{ℕ, Bool, if◌then◌else◌, List, Option, None, Some, Result, Ok, Err, bytes_eq}
+use Rattle.std.specs.Option.{ok_or}
 use Rattle.fixed_interval.specs.Interval.{Interval}
+use Rattle.fixed_interval.specs.declared.faults.ArithFault.{ArithFault}
+use Rattle.fixed_interval.specs.declared.faults.Overflow.{Overflow}
+use Rattle.round_out.specs.Reports.{reported_of, expanded_of}
+use Rattle.round_out.specs.Searches.{correlation_of}
+use Rattle.round_out.specs.declared.coefficient.CorrSaid.{CorrSaid}
+use Rattle.table_g2.specs.Factors.{factor_span}
+use Rattle.table_g2.specs.Said.{said}
+use Rattle.table_g2.specs.declared.known.Level.{Level}
+use Rattle.table_g2.specs.declared.known.Nu.{Nu}
 use Rattle.sheet_rows.specs.Rows.{Sheet}
 use Rattle.sheet_rows.specs.Sheets.{has_quantity, has_input}
 use Rattle.value_cache.specs.Evaluations.{evaluation_of}
 use Rattle.value_cache.specs.declared.evaluation.Evaluation.{Evaluation}
 use Rattle.value_cache.specs.declared.evaluation.Evaluation.TheVariants.{Enclosed, Fault}
+use Rattle.covariance.specs.Gradients.{Spans, sensitivity}
+use Rattle.covariance.specs.Variances.{combined_variance_span, combined_covariance_span}
+use Rattle.adjoint_pass.specs.Sensitivities.{has_gradient, gradient_of}
+use Rattle.eff_dof.specs.GroupParts.{known_degrees_of}
 use Rattle.sheet_model.specs.Quantities.{quantities}
-use Rattle.adjoint_pass.specs.Sensitivities.{sensitivity_of, has_gradient}
+use Rattle.sheet_model.specs.Groups.{groups}
 use Rattle.answers.specs.declared.command.Query.{Query}
-use Rattle.answers.specs.declared.command.Query.TheVariants.{Value as AskValue, Sensitivity as AskSensitivity, Dump as AskDump}
+use Rattle.answers.specs.declared.command.Query.TheVariants.{Value as AskValue, Variance as AskVariance, Covariance as AskCovariance, Correlation as AskCorrelation, Sensitivity as AskSensitivity, Degrees as AskDegrees, Report as AskReport, Expanded as AskExpanded, Dump as AskDump}
 use Rattle.answers.specs.declared.fault.AskFault.TheVariants.{NoSuchResult}
 use Rattle.answers.specs.declared.reply.Answer.{Answer}
-use Rattle.answers.specs.declared.reply.Answer.TheVariants.{Value, Sensitivity, Dump, ValueFault, LawOverflow}
+use Rattle.answers.specs.declared.reply.Answer.TheVariants.{Value, Variance, Covariance, Correlation, Sensitivity, Degrees, Report, Expanded, Dump, ValueFault, LawOverflow}
 use Rattle.answers.specs.declared.reply.Reply.{Reply}
 use Rattle.answers.specs.declared.reply.Reply.TheVariants.{Ask, Said}
 
--- ---- what stands before the answer to a query. The order of these refusals and faults is this project's own
--- whether a name is that of a result is decided first, by the sheet alone
-abbrev pub asked_of : Bool → List ℕ → Reply → Reply
-asked_of there name reply = if there then reply else Ask (NoSuchResult name)
+-- ---- what is found, or what stands in its place
+pub data Stop : Type 0 where
+  -- no quantity has this name
+  Unknown : List ℕ → Stop
+  -- the quantity has no span: this fault arose in the row of this name
+  Faulted : ArithFault → List ℕ → Stop
+  -- an operation that the law of propagation asks for leaves the range of bounds
+  OutOfRange : Stop
 
--- the reply goes on with the span of the quantity, or is the fault in its place with the row in which it arose. Each
--- quantity of a well-formed sheet has an evaluation
-abbrev pub after_value : List ℕ → Option (Evaluation (List ℕ)) → (Interval → Reply) → Reply
-after_value name None reply = Ask (NoSuchResult name)
-after_value name (Some (Fault fault row)) reply = Said (ValueFault fault row)
-after_value name (Some (Enclosed span)) reply = reply span
+abbrev pub Found : Type 0 → Type 0
+Found A = Result A Stop
 
--- it goes on where all sensitivities of the quantity (JCGM 100:2008, 5.1.3) stay in the range of bounds
-abbrev pub after_gradient : Bool → Reply → Reply
-after_gradient there reply = if there then reply else Said LawOverflow
+-- what is found with the first goes on to the second; what stands in its place stands
+abbrev pub and_then : {A B : Type 0} → Found A → (A → Found B) → Found B
+and_then (Ok x) next = next x
+and_then (Err stop) next = Err stop
 
--- the answer with the span of a law, where that is in range
-abbrev pub law_reply : (Interval → Answer) → Option Interval → Reply
-law_reply answer None = Said LawOverflow
-law_reply answer (Some span) = Said (answer span)
+abbrev pub in_range : {A : Type 0} → Result A Overflow → Found A
+in_range (Ok x) = Ok x
+in_range (Err fault) = Err OutOfRange
+
+-- ---- what is found of a sheet
+abbrev pub value_by : List ℕ → Option (Evaluation (List ℕ)) → Found Interval
+value_by y None = Err (Unknown y)
+value_by y (Some (Fault fault row)) = Err (Faulted fault row)
+value_by y (Some (Enclosed span)) = Ok span
+
+-- the span of a value. Each quantity of a well-formed sheet has an evaluation
+abbrev pub value_in : Sheet → List ℕ → Found Interval
+value_in sheet y = value_by y (evaluation_of bytes_eq (quantities sheet) y)
+
+-- all sensitivities (JCGM 100:2008, 5.1.3)
+abbrev pub gradient_in : Sheet → List ℕ → Found (Spans (List ℕ))
+gradient_in sheet y =
+    if has_gradient bytes_eq (quantities sheet) y then Ok (gradient_of bytes_eq (quantities sheet) y) else Err OutOfRange
+
+-- of quantities with these sensitivities: the variance of one, and the covariance of two (5.1.2, 5.2.2)
+abbrev pub variance_in : Sheet → Spans (List ℕ) → Found Interval
+variance_in sheet dy = in_range (ok_or (combined_variance_span dy (groups sheet)) (record {}))
+
+abbrev pub covariance_in : Sheet → Spans (List ℕ) → Spans (List ℕ) → Found Interval
+covariance_in sheet dy dz = in_range (ok_or (combined_covariance_span dy dz (groups sheet)) (record {}))
+
+-- the correlation coefficient (5.2.2), from the covariance and the variances of both
+abbrev pub correlation_in : Sheet → Spans (List ℕ) → Spans (List ℕ) → Found CorrSaid
+correlation_in sheet dy dz =
+    and_then (covariance_in sheet dy dz) (λ c. and_then (variance_in sheet dy) (λ v. and_then (variance_in sheet dz) (λ w. in_range (correlation_of c v w))))
+
+-- the effective degrees of freedom (G.4.1)
+abbrev pub degrees_in : Sheet → Spans (List ℕ) → Found Nu
+degrees_in sheet dy = in_range (known_degrees_of dy (groups sheet))
+
+-- ---- answers
+-- of one quantity, by the span of its value and its sensitivities
+abbrev pub answer_of_one : Sheet → List ℕ → (Interval → Spans (List ℕ) → Found Answer) → Found Answer
+answer_of_one sheet y answer = and_then (value_in sheet y) (λ value. and_then (gradient_in sheet y) (λ dy. answer value dy))
+
+-- of two, by the sensitivities of both. The values of both stand before
+abbrev pub answer_of_two : Sheet → List ℕ → List ℕ → (Spans (List ℕ) → Spans (List ℕ) → Found Answer) → Found Answer
+answer_of_two sheet y z answer =
+    and_then (value_in sheet y) (λ first. and_then (value_in sheet z) (λ second.
+    and_then (gradient_in sheet y) (λ dy. and_then (gradient_in sheet z) (λ dz. answer dy dz))))
+
+-- with the factor in this span (6.2.1, G.4.1). The least factor is answered, which is the only one where the span settles
+-- anything
+abbrev pub expanded_by : List ℕ → Interval → Interval → Interval → Found Answer
+expanded_by y value v k = and_then (in_range (expanded_of value v k)) (λ reported. Ok (Expanded y reported k.lo))
+
+abbrev pub expanded_in : Sheet → List ℕ → Level → Interval → Spans (List ℕ) → Found Answer
+expanded_in sheet y level value dy =
+    and_then (degrees_in sheet dy) (λ nu. and_then (variance_in sheet dy) (λ v. expanded_by y value v (factor_span nu level)))
+
+-- the answer of a sheet that has the quantities of the query
+abbrev pub answer_in : Sheet → Query → Found Answer
+answer_in sheet (AskValue y) = and_then (value_in sheet y) (λ value. Ok (Value y value))
+answer_in sheet (AskVariance y) = answer_of_one sheet y (λ value dy. and_then (variance_in sheet dy) (λ v. Ok (Variance y v)))
+answer_in sheet (AskCovariance y z) = answer_of_two sheet y z (λ dy dz. and_then (covariance_in sheet dy dz) (λ c. Ok (Covariance y z c)))
+answer_in sheet (AskCorrelation y z) = answer_of_two sheet y z (λ dy dz. and_then (correlation_in sheet dy dz) (λ r. Ok (Correlation y z r)))
+answer_in sheet (AskSensitivity y x) = answer_of_one sheet y (λ value dy. Ok (Sensitivity y x (sensitivity dy x)))
+answer_in sheet (AskDegrees y) = answer_of_one sheet y (λ value dy. and_then (degrees_in sheet dy) (λ nu. Ok (Degrees y (said nu))))
+answer_in sheet (AskReport y) = answer_of_one sheet y (λ value dy. and_then (variance_in sheet dy) (λ v. Ok (Report y (reported_of value v))))
+answer_in sheet (AskExpanded y level) = answer_of_one sheet y (λ value dy. expanded_in sheet y level value dy)
+answer_in sheet AskDump = Ok (Dump sheet.rows)
+
+-- ---- names
+-- the first of the names in a query that is that of no result of the sheet
+abbrev pub unless_there : Bool → List ℕ → Option (List ℕ) → Option (List ℕ)
+unless_there there name later = if there then later else Some name
+
+abbrev pub unknown_result : Sheet → Query → Option (List ℕ)
+unknown_result sheet (AskValue y) = unless_there (has_quantity sheet y) y None
+unknown_result sheet (AskVariance y) = unless_there (has_quantity sheet y) y None
+unknown_result sheet (AskCovariance y z) = unless_there (has_quantity sheet y) y (unless_there (has_quantity sheet z) z None)
+unknown_result sheet (AskCorrelation y z) = unless_there (has_quantity sheet y) y (unless_there (has_quantity sheet z) z None)
+unknown_result sheet (AskSensitivity y x) = unless_there (has_quantity sheet y) y (unless_there (has_input sheet x) x None)
+unknown_result sheet (AskDegrees y) = unless_there (has_quantity sheet y) y None
+unknown_result sheet (AskReport y) = unless_there (has_quantity sheet y) y None
+unknown_result sheet (AskExpanded y level) = unless_there (has_quantity sheet y) y None
+unknown_result sheet AskDump = None
 
 -- ---- replies
-abbrev pub value_reply : Sheet → List ℕ → Reply
-value_reply sheet name = after_value name (evaluation_of bytes_eq (quantities sheet) name) (λ span. Said (Value name span))
+abbrev pub reply_of_stop : Stop → Reply
+reply_of_stop (Unknown name) = Ask (NoSuchResult name)
+reply_of_stop (Faulted fault row) = Said (ValueFault fault row)
+reply_of_stop OutOfRange = Said LawOverflow
 
--- of a quantity that has a value. Where its gradient is there, so is each sensitivity
-abbrev pub slope_reply : Sheet → List ℕ → List ℕ → Reply
-slope_reply sheet y x =
-    after_gradient (has_gradient bytes_eq (quantities sheet) y) (law_reply (Sensitivity y x) (sensitivity_of bytes_eq (quantities sheet) y x))
+abbrev pub reply_of : Found Answer → Reply
+reply_of (Ok answer) = Said answer
+reply_of (Err stop) = reply_of_stop stop
 
-abbrev pub sensitivity_reply : Sheet → List ℕ → List ℕ → Reply
-sensitivity_reply sheet y x = after_value y (evaluation_of bytes_eq (quantities sheet) y) (λ span. slope_reply sheet y x)
+-- whether the names are those of results is decided first, by the sheet alone
+abbrev pub reply_by : Option (List ℕ) → Found Answer → Reply
+reply_by (Some name) answer = Ask (NoSuchResult name)
+reply_by None answer = reply_of answer
 
 abbrev pub reply_to : Sheet → Query → Reply
-reply_to sheet (AskValue name) = asked_of (has_quantity sheet name) name (value_reply sheet name)
-reply_to sheet (AskSensitivity y x) = asked_of (has_quantity sheet y) y (asked_of (has_input sheet x) x (sensitivity_reply sheet y x))
-reply_to sheet AskDump = Said (Dump sheet.rows)
-
--- the first name in a query that is that of no result of the sheet
-abbrev pub unknown_result : Sheet → Query → Option (List ℕ)
-unknown_result sheet (AskValue name) = if has_quantity sheet name then None else Some name
-unknown_result sheet (AskSensitivity y x) =
-    if has_quantity sheet y then (if has_input sheet x then None else Some x) else Some y
-unknown_result sheet AskDump = None
+reply_to sheet query = reply_by (unknown_result sheet query) (answer_in sheet query)

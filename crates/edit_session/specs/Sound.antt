@@ -1,51 +1,132 @@
 -- What an answer says of the exact law of the sheet that is asked.
-use Rattle.std.specs.Prelude.{◌≡◌, Bool, true, List, Option, None, Some, bytes_eq}
-use Rattle.exact_law.specs.Model.{has_value, exact_slope}
+use Rattle.std.specs.Prelude.{◌≡◌, ℕ, true, List, Option, None, Some, option_map, bytes_eq, pos}
+use Rattle.exact_fraction.specs.Number.{ℚ, of_ℤ, ◌*ℚ◌, ◌≤ℚ◌}
+use Rattle.exact_law.specs.Model.{Row, has_value, exact_value, exact_slope}
+use Rattle.exact_law.specs.Law as exact
+use Rattle.exact_law.specs.Degrees.{Degrees as ExactDegrees, degrees_of, factor}
+use Rattle.decimal18.specs.Bound.{Bound, value_of}
 use Rattle.fixed_interval.specs.Interval.{Interval, Encloses}
+use Rattle.round_out.specs.Correlations.{IsTrueOf}
+use Rattle.round_out.specs.Reports.{IsReportOf}
+use Rattle.round_out.specs.declared.coefficient.CorrSaid.{CorrSaid}
+use Rattle.round_out.specs.declared.outcome.Reported.{Reported}
+use Rattle.round_out.specs.declared.outcome.Reported.TheVariants.{Exact, Rounded, Unsettled}
+use Rattle.table_g2.specs.Factors.{column}
+use Rattle.table_g2.specs.Said.{IsSaid}
+use Rattle.table_g2.specs.declared.known.Level.{Level}
+use Rattle.table_g2.specs.declared.settled.DofSaid.{DofSaid}
 use Rattle.sheet_rows.specs.Rows.{Sheet}
-use Rattle.value_cache.specs.Quantities.{Quantity}
 use Rattle.value_cache.specs.Model.{model_of, HasValueIn}
 use Rattle.answers.specs.Commands.{Command, Change, Undo, Redo, Mark as MarkPresent, Restore, Ask as AskPresent, AskAt}
+use Rattle.answers.specs.declared.command.Query.{Query}
+use Rattle.answers.specs.declared.command.Query.TheVariants.{Value as AskValue, Variance as AskVariance, Covariance as AskCovariance, Correlation as AskCorrelation, Sensitivity as AskSensitivity, Degrees as AskDegrees, Report as AskReport, Expanded as AskExpanded, Dump as AskDump}
 use Rattle.answers.specs.declared.reply.Answer.{Answer}
-use Rattle.answers.specs.declared.reply.Answer.TheVariants.{Value, Sensitivity, Dump, ValueFault, LawOverflow}
+use Rattle.answers.specs.declared.reply.Answer.TheVariants.{Value, Variance, Covariance, Correlation, Sensitivity, Degrees, Report, Expanded, Dump, ValueFault, LawOverflow}
 use Rattle.answers.specs.declared.reply.Reply.{Reply}
 use Rattle.answers.specs.declared.reply.Reply.TheVariants.{Fine, Line, Edit, History, Mark, Ask, Said}
 use Rattle.sheet_model.specs.Quantities.{quantities}
+use Rattle.sheet_model.specs.Groups.{exact_groups}
 use Rattle.edit_session.specs.Machine.{State, kept_as}
 
--- the value of y's expanded formula is defined, and the interval encloses its derivative by the input x
--- (JCGM 100:2008, 5.1.3)
-pub record HasSensitivityIn {K : Type 0} (same : K → K → Bool) (qs : List (Quantity K)) (y x : K) (s : Interval) : Type 0 where
-  pub defined : has_value same (model_of qs) y ≡ true
-  pub enclosed : Encloses s (exact_slope same (model_of qs) y x)
+-- ---- the exact law of a sheet
+abbrev pub model_in : Sheet → List (Row (List ℕ))
+model_in sheet = model_of (quantities sheet)
 
-abbrev pub IsSoundAnswer : Sheet → Answer → Type 0
-IsSoundAnswer sheet (Value name span) = HasValueIn bytes_eq (quantities sheet) name span
-IsSoundAnswer sheet (Sensitivity y x span) = HasSensitivityIn bytes_eq (quantities sheet) y x span
-IsSoundAnswer sheet (Dump rows) = Unit {0}
-IsSoundAnswer sheet (ValueFault fault row) = Unit {0}
-IsSoundAnswer sheet LawOverflow = Unit {0}
+-- the expanded formula has a value; which it is (JCGM 100:2008, 4.1.4)
+abbrev pub IsDefinedIn : Sheet → List ℕ → Type 0
+IsDefinedIn sheet y = has_value bytes_eq (model_in sheet) y ≡ true
 
-abbrev pub IsSoundReply : Sheet → Reply → Type 0
-IsSoundReply sheet (Said answer) = IsSoundAnswer sheet answer
-IsSoundReply sheet Fine = Unit {0}
-IsSoundReply sheet (Line fault) = Unit {0}
-IsSoundReply sheet (Edit fault) = Unit {0}
-IsSoundReply sheet (History fault) = Unit {0}
-IsSoundReply sheet (Mark fault) = Unit {0}
-IsSoundReply sheet (Ask fault) = Unit {0}
+abbrev pub exact_value_in : Sheet → List ℕ → ℚ
+exact_value_in sheet y = exact_value bytes_eq (model_in sheet) y
+
+-- the covariance of y and z, and the variance of one where they are the same (5.1.2, 5.2.2)
+abbrev pub law_in : Sheet → List ℕ → List ℕ → ℚ
+law_in sheet y z = exact.law bytes_eq (model_in sheet) (exact_groups sheet) y z
+
+-- the effective degrees of freedom, and the factor for them at a level (G.4.1)
+abbrev pub exact_degrees_in : Sheet → List ℕ → ExactDegrees
+exact_degrees_in sheet y = degrees_of bytes_eq (model_in sheet) (exact_groups sheet) y
+
+abbrev pub factor_in : Sheet → List ℕ → Level → ℚ
+factor_in sheet y level = factor (column level) (exact_degrees_in sheet y)
+
+-- ---- what is said of it. Each says too that the values of the quantities are defined
+-- the interval encloses the derivative of y's expanded formula by the input x (5.1.3)
+pub record HasSensitivityIn (sheet : Sheet) (y x : List ℕ) (s : Interval) : Type 0 where
+  pub defined : IsDefinedIn sheet y
+  pub enclosed : Encloses s (exact_slope bytes_eq (model_in sheet) y x)
+
+pub record HasVarianceIn (sheet : Sheet) (y : List ℕ) (s : Interval) : Type 0 where
+  pub defined : IsDefinedIn sheet y
+  pub enclosed : Encloses s (law_in sheet y y)
+  pub not_negative : of_ℤ (pos 0) ≤ℚ value_of s.lo
+
+pub record HasCovarianceIn (sheet : Sheet) (y z : List ℕ) (s : Interval) : Type 0 where
+  pub first : IsDefinedIn sheet y
+  pub second : IsDefinedIn sheet z
+  pub enclosed : Encloses s (law_in sheet y z)
+
+pub record HasCorrelationIn (sheet : Sheet) (y z : List ℕ) (r : CorrSaid) : Type 0 where
+  pub first : IsDefinedIn sheet y
+  pub second : IsDefinedIn sheet z
+  pub said : IsTrueOf r (law_in sheet y z) (law_in sheet y y) (law_in sheet z z)
+
+pub record HasDegreesIn (sheet : Sheet) (y : List ℕ) (nu : DofSaid) : Type 0 where
+  pub defined : IsDefinedIn sheet y
+  pub said : IsSaid nu (exact_degrees_in sheet y)
+
+-- the estimate with its standard uncertainty (7.2.6)
+pub record HasReportIn (sheet : Sheet) (y : List ℕ) (reported : Reported) : Type 0 where
+  pub defined : IsDefinedIn sheet y
+  pub said : IsReportOf (exact_value_in sheet y) (law_in sheet y y) reported
+
+-- the coverage factor is f, where anything is reported
+abbrev pub IsFactor : Reported → Bound → ℚ → Type 0
+IsFactor (Exact estimate) k f = value_of k ≡ f
+IsFactor (Rounded estimate m e) k f = value_of k ≡ f
+IsFactor Unsettled k f = Unit {0}
+
+-- the estimate with its expanded uncertainty, the factor times the standard uncertainty (6.2.1)
+pub record HasExpandedIn (sheet : Sheet) (y : List ℕ) (level : Level) (reported : Reported) (k : Bound) : Type 0 where
+  pub defined : IsDefinedIn sheet y
+  pub said : IsReportOf (exact_value_in sheet y) (factor_in sheet y level *ℚ factor_in sheet y level *ℚ law_in sheet y y) reported
+  pub factor : IsFactor reported k (factor_in sheet y level)
+
+-- ---- answers
+-- the answer is one to the query, and what it says is so. A fault and an overflow say nothing of the law
+abbrev pub IsSoundAnswer : Sheet → Query → Answer → Type 0
+IsSoundAnswer sheet query (Value y s) = (query ≡ AskValue y) × HasValueIn bytes_eq (quantities sheet) y s
+IsSoundAnswer sheet query (Variance y s) = (query ≡ AskVariance y) × HasVarianceIn sheet y s
+IsSoundAnswer sheet query (Covariance y z s) = (query ≡ AskCovariance y z) × HasCovarianceIn sheet y z s
+IsSoundAnswer sheet query (Correlation y z r) = (query ≡ AskCorrelation y z) × HasCorrelationIn sheet y z r
+IsSoundAnswer sheet query (Sensitivity y x s) = (query ≡ AskSensitivity y x) × HasSensitivityIn sheet y x s
+IsSoundAnswer sheet query (Degrees y nu) = (query ≡ AskDegrees y) × HasDegreesIn sheet y nu
+IsSoundAnswer sheet query (Report y reported) = (query ≡ AskReport y) × HasReportIn sheet y reported
+IsSoundAnswer sheet query (Expanded y reported k) = (level : Level) × ((query ≡ AskExpanded y level) × HasExpandedIn sheet y level reported k)
+IsSoundAnswer sheet query (Dump rows) = (query ≡ AskDump) × (rows ≡ sheet.rows)
+IsSoundAnswer sheet query (ValueFault fault row) = Unit {0}
+IsSoundAnswer sheet query LawOverflow = Unit {0}
+
+abbrev pub IsSoundReply : Sheet → Query → Reply → Type 0
+IsSoundReply sheet query (Said answer) = IsSoundAnswer sheet query answer
+IsSoundReply sheet query Fine = Unit {0}
+IsSoundReply sheet query (Line fault) = Unit {0}
+IsSoundReply sheet query (Edit fault) = Unit {0}
+IsSoundReply sheet query (History fault) = Unit {0}
+IsSoundReply sheet query (Mark fault) = Unit {0}
+IsSoundReply sheet query (Ask fault) = Unit {0}
 
 -- ---- commands
--- the sheet that is asked, where there is one: the present one, or the one that is kept under the name
-abbrev pub asked : State → Command → Option Sheet
-asked state (AskPresent query) = Some state.present
-asked state (AskAt name query) = kept_as state.marks name
+-- the sheet that is asked, where there is one, and the query: the present sheet, or the one that is kept under the name
+abbrev pub asked : State → Command → Option (Sheet × Query)
+asked state (AskPresent query) = Some (state.present, query)
+asked state (AskAt name query) = option_map (λ sheet. (sheet, query)) (kept_as state.marks name)
 asked state (Change edit) = None
 asked state Undo = None
 asked state Redo = None
 asked state (MarkPresent name) = None
 asked state (Restore name) = None
 
-abbrev pub IsSoundOn : Option Sheet → Reply → Type 0
+abbrev pub IsSoundOn : Option (Sheet × Query) → Reply → Type 0
 IsSoundOn None reply = Unit {0}
-IsSoundOn (Some sheet) reply = IsSoundReply sheet reply
+IsSoundOn (Some asked) reply = IsSoundReply asked.0 asked.1 reply

@@ -17,7 +17,7 @@ ghost use Rattle.edit_session.specs.Rebuild.{rebuild, IsBuiltBy};
 
 /// What a sheet replies holds of its exact law: a value or a sensitivity that it replies lies in its interval.
 pub fn every_reply_is_sound()
-    ensures of_sheets { (sheet : Sheet) → IsStanding sheet → (query : Query) → IsSoundReply sheet (reply_to sheet query) }
+    ensures of_sheets { (sheet : Sheet) → IsStanding sheet → (query : Query) → IsSoundReply sheet query (reply_to sheet query) }
     ensures of_commands { (state : State) → IsStandingState state → (command : Command)
         → IsSoundOn (asked state command) (step state command).1 }
 {}

@@ -3,12 +3,17 @@
 #![tactic(auto)]
 
 mod answering;
+mod asked;
 mod edits;
+mod law;
+#[cfg(test)]
+mod law_tests;
 mod laws;
-mod numbering;
 mod session;
+mod stop;
 #[cfg(test)]
 mod tests;
+mod uncertainty;
 
 pub use laws::{
     every_reply_is_sound, names_of_quantities_have_values, rebuilt_sheets_reply_alike,

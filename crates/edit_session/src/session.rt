@@ -177,7 +177,7 @@ impl Session {
         steps: &mut Steps<L>,
     ) -> Result<Answer, AskFault>
         ensures reply { (reply : Option Reply) → IsAskReply result reply → Does (state_of self.old) (Ask query.now) (state_of self.new) reply }
-        ensures sound { IfOk result (λ answer. IsSoundAnswer (state_of self.old).present answer) }
+        ensures sound { IfOk result (IsSoundAnswer (state_of self.old).present query.now) }
         ensures regular { IfOk result IsRegularAnswer }
     {
         ask_sheet(self.alloc, &self.present, query, steps)
@@ -196,7 +196,7 @@ impl Session {
         steps: &mut Steps<L>,
     ) -> Result<Answer, AskFault>
         ensures reply { (reply : Option Reply) → IsAskReply result reply → Does (state_of self.old) (AskAt mark.now query.now) (state_of self.new) reply }
-        ensures sound { IfOk result (λ answer. IfSome (kept_as (state_of self.old).marks mark.now) (λ sheet. IsSoundAnswer sheet answer)) }
+        ensures sound { IfSome (kept_as (state_of self.old).marks mark.now) (λ sheet. IfOk result (IsSoundAnswer sheet query.now)) }
         ensures regular { IfOk result IsRegularAnswer }
     {
         let Some(kept) = self.marks.get(mark) else {

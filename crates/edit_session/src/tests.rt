@@ -117,7 +117,7 @@ const LAST_UNDO: [(Step, Outcome); 4] = [
     (Step::Value(b'X'), Outcome::Number(1)),
 ];
 
-fn letter(byte: u8) -> Option<Name>
+pub(crate) fn letter(byte: u8) -> Option<Name>
     ensures { IfSome result (λ name. is_plain_name name ≡ true) }
 {
     Name::plain(&[byte])
@@ -162,12 +162,12 @@ fn formula_of(alloc: Global, text: &[u8]) -> Result<Formula, &'static str>
     }
 }
 
-// The row of a formula over its columns.
-fn product(alloc: Global) -> Result<Row, Fail>
+// The row of a formula.
+pub(crate) fn formula_row(alloc: Global, byte: u8, text: &[u8]) -> Result<Row, Fail>
     ensures { IfOk result (λ row. IsRegular (row_of row)) }
 {
-    let name = letter(b'Y').ok_or("no name")?;
-    let formula = formula_of(alloc, b"T.A*T.B")?;
+    let name = letter(byte).ok_or("no name")?;
+    let formula = formula_of(alloc, text)?;
     Ok(Row::Formula {
         name,
         formula: Rc::new(alloc, formula)?,
@@ -212,11 +212,9 @@ fn of_answer(answer: Result<Answer, AskFault>, name: &Name) -> Outcome {
         Ok(Answer::Value(_, span)) => Outcome::Number(span.lo().coefficient()),
         Ok(Answer::Sensitivity(_, _, span)) => Outcome::Number(span.lo().coefficient()),
         Ok(Answer::Dump(rows)) => place_in(rows, name),
-        Ok(Answer::ValueFault(..) | Answer::LawOverflow) | Err(AskFault::OutOfMemory) => {
-            Outcome::Other
-        }
         Err(AskFault::NoMark(name)) => Outcome::NoMark(of_letter(name)),
         Err(AskFault::NoSuchResult(name)) => Outcome::NoSuchResult(of_letter(name)),
+        Ok(_) | Err(AskFault::OutOfMemory) => Outcome::Other,
     }
 }
 
@@ -318,7 +316,7 @@ fn slopes<L: Ledger>(rt: &impl Abort, alloc: Global, blank: Blank) -> Result<(),
         Outcome::Done
     );
     assert_eq!(rt;
-        of_edit(session.edit(Edit::Add(product(alloc)?))),
+        of_edit(session.edit(Edit::Add(formula_row(alloc, b'Y', b"T.A*T.B")?))),
         Outcome::Done
     );
     for (y, x, wanted) in SLOPES {
