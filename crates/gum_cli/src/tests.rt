@@ -27,7 +27,7 @@ const DUMP: &[u8; 154] =
 const MADE: &[u8; 30] = b"ok\nok\nok\nok\nok\nok\nok\nok\nok\nok\n";
 
 // Lines that are refused on this sheet as they stand, and why.
-const REFUSED_LINES: [(&str, &str); 31] = [
+const REFUSED_LINES: [(&str, &str); 32] = [
     ("let Z = X +", "syntax 12"),
     ("mark X.Y", "syntax 6"),
     ("given Z 5. std 1", "not_number 9"),
@@ -63,12 +63,13 @@ const REFUSED_LINES: [(&str, &str); 31] = [
     ("corr Q X x 1.01", "r_range"),
     ("corr Q X x -1.01", "r_range"),
     ("tol Z upper 1 guard 1", "not_built"),
-    ("var X", "not_built"),
+    ("budget X", "not_built"),
+    ("expanded X 95.0", "level"),
     ("value X\r\r", "syntax 7"),
 ];
 
 // Commands that are refused on this sheet, and why.
-const REFUSED_COMMANDS: [(&str, &str); 30] = [
+const REFUSED_COMMANDS: [(&str, &str); 33] = [
     ("given X 1 exact", "duplicate X"),
     ("let x = Q", "duplicate x"),
     ("let Z = Q * R", "unknown Q"),
@@ -99,6 +100,9 @@ const REFUSED_COMMANDS: [(&str, &str); 30] = [
     ("sens T X", "no_such_result T"),
     ("sens Y W", "no_such_result W"),
     ("at M sens Y P", "no_such_result P"),
+    ("cov Y W", "no_such_result W"),
+    ("r W Y", "no_such_result W"),
+    ("at M dof P", "no_such_result P"),
 ];
 
 // Tables, and commands by their names, that are refused on this sheet, and why.
@@ -296,6 +300,28 @@ fn answers_sensitivities(rt: HostRuntime) -> Result<(), Fail> {
 }
 
 #[test]
+fn answers_variances(rt: HostRuntime) -> Result<(), Fail> {
+    assert_replies! { rt;
+        b"given S 10 std 2\ngiven A 1 std 1\nlet X = S + A\nlet Y = S - A\nvar X\ncov X Y\nr X Y\nmark M\nset given A 1 std 0\nr X Y\nat M cov Y X\nr X A\n"
+            => b"ok\nok\nok\nok\nvar X 5 5\ncov X Y 3 3\nr X Y 0.60\nok\nok\nr X Y 1.00\ncov Y X 3 3\nr X A none\n",
+        b"table T\nA,B\n1,2\n3,6\nend\ngiven C 1 std 1e9\ngiven D 1 std 1\ncorr P C D 0.5\nvar T.B\ncov T.A T.B\nvar D\nr D T.A\nlet Y = D + T.A\nvar Y\n"
+            => b"ok\nok\nok\nok\nvar T.B 4 4\ncov T.A T.B 2 2\nfault law_overflow\nfault law_overflow\nok\nfault law_overflow\n",
+    }
+    Ok(())
+}
+
+#[test]
+fn answers_reports(rt: HostRuntime) -> Result<(), Fail> {
+    assert_replies! { rt;
+        b"given A -1.25 std 0.1 dof 5\nreadings B 1 2 4\nlet S = A - B\nreport S\ndof S\nexpanded S 95\nexpanded S 99\nset given A 5 exact\ndof S\nreport A\nexpanded A 95.45\nundo\nexpanded S 95.45\n"
+            => b"ok\nok\nok\nreport S -3.58 u 0.89\ndof S 2\nexpanded S -3.6 U 3.8 k 4.3\nexpanded S -3.6 U 8.8 k 9.92\nok\ndof S 2\nreport A 5 u 0\nexpanded A 5 U 0 k 2\nok\nexpanded S -3.6 U 4.0 k 4.53\n",
+        b"given X 123456 std 995\nreport X\nexpanded X 95\nlet T = X/0\ndof T\nexpanded T 9\nexpanded Y 95\n"
+            => b"ok\nreport X 123500 u 1000\nexpanded X 123500 U 2000 k 1.96\nok\nfault zero_divisor T\nrefused level\nrefused no_such_result Y\n",
+    }
+    Ok(())
+}
+
+#[test]
 fn answers_faults(rt: HostRuntime) -> Result<(), Fail> {
     assert_replies! { rt;
         b"let T = 999999999999999999 + 1\nvalue T\nlet U = 999999999999999998 + 1\nvalue U\n"
@@ -314,7 +340,7 @@ fn refuses_lines(rt: HostRuntime) -> Result<(), Fail> {
         b"let Y = sin(1)\nlet Y = 2 + 3x\n" => b"refused unknown_function 9\nrefused syntax 14\n",
         b"value  X\nvalue X\r\r\n\x00\xff\n" => b"refused no_such_result X\nrefused syntax 7\nrefused syntax 1\n",
         b"given X 5. std 1\ngiven X 5 std -1\ngiven X\n" => b"refused not_number 9\nrefused negative\nrefused syntax 8\n",
-        b"var X\nvalue T.V\ntol T\nvalue\nvalue X Y\n"
+        b"budget X\nvalue T.V\ntol T\nvalue\nvalue X Y\n"
             => b"refused not_built\nrefused no_such_result T.V\nrefused not_built\nrefused syntax 6\nrefused syntax 9\n",
         b"undo\nset table T # end\r\nA # ohm\n \t\nundo\nend # A\n \tend\r\nredo\n"
             => b"refused nothing_to_undo\nrefused shape 1\nrefused nothing_to_redo\n",

@@ -23,7 +23,7 @@ pub fn worked_refusals()
     ensures unknown_function { out (codes "let Y = sin(1)\n") ≡ codes "refused unknown_function 9\n" }
     ensures syntax { out (codes "given X\nvalue X\r\r\n") ≡ codes "refused syntax 8\nrefused syntax 7\n" }
     ensures not_number { out (codes "given X 5. std 1\n") ≡ codes "refused not_number 9\n" }
-    ensures not_built { out (codes "tol G upper 1 guard 1\nvar X\n") ≡ codes "refused not_built\nrefused not_built\n" }
+    ensures not_built { out (codes "tol G upper 1 guard 1\nbudget X\n") ≡ codes "refused not_built\nrefused not_built\n" }
     ensures block { out (codes "set table T\r\nA # ohm\nundo\n end\r\nundo\n") ≡ codes "refused shape 1\nrefused nothing_to_undo\n" }
     ensures open_table { out (codes "undo\ntable T\nA\nundo\n") ≡ codes "refused nothing_to_undo\nrefused open_table\n" }
     ensures early_block { early (codes "undo\ntable T\nA\nend") ≡ codes "refused nothing_to_undo\n" }
@@ -73,6 +73,45 @@ pub fn worked_sensitivities()
         ≡ codes "ok\nok\nok\nfault zero_divisor Z\n" }
     ensures names { out (codes "given X 5 std 1\nlet Y = X\nsens Z W\nsens Y Z\nsens Y Y\nat M sens Y X\n")
         ≡ codes "ok\nok\nrefused no_such_result Z\nrefused no_such_result Z\nrefused no_such_result Y\nrefused no_mark M\n" }
+{}
+
+/// Variances, covariances and correlation coefficients: of quantities that share an input and are correlated by that
+/// alone, so that what it brings to their difference cancels; of two without a common input, and with one that has no
+/// uncertainty; of a declared coefficient; of the voltages and currents of JCGM 100:2008, Table H.2; a law out of range
+/// where the value is in range; and the order of refusals and faults.
+pub fn worked_variances()
+    ensures cancel { out (codes "given X 5 std 1\nlet A = X*2\nlet B = X*3\nlet C = B - A - X\nvar C\ncov A B\nr A B\n")
+        ≡ codes "ok\nok\nok\nok\nvar C 0 0\ncov A B 6 6\nr A B 1.00\n" }
+    ensures apart { out (codes "given X 5 std 1\ngiven Y 7 std 1\ngiven Z 1 exact\ncov X Y\nr X Y\nr X Z\n")
+        ≡ codes "ok\nok\nok\ncov X Y 0 0\nr X Y 0.00\nr X Z none\n" }
+    ensures declared { out (codes "given A 1 std 1\ngiven B 2 std 2\ncorr P A B -0.5\nlet S = A + B\nvar S\nvar A\ncov A S\nr A B\n")
+        ≡ codes "ok\nok\nok\nok\nvar S 3 3\nvar A 1 1\ncov A S 0 0\nr A B -0.50\n" }
+    ensures table { out (codes "table T\nV,I\n5.007,19.663\n4.994,19.639\n5.005,19.640\n4.990,19.685\n4.999,19.678\nend\nvar T.V\ncov T.V T.I\nr T.V T.I\n")
+        ≡ codes "ok\nvar T.V 0.0000103 0.0000103\ncov T.V T.I -0.0000108 -0.0000108\nr T.V T.I -0.36\n" }
+    ensures overflow { out (codes "given X 1000000000 std 1000000000\nvalue X\nvar X\n")
+        ≡ codes "ok\nvalue X 1000000000 1000000000\nfault law_overflow\n" }
+    ensures faults { out (codes "given X 5 std 1\nlet Z = 1/(X-5)\nlet Y = 1/(5-X)\ncov Y Z\ncov X Z\ncov W Z\nr X W\nat M var X\n")
+        ≡ codes "ok\nok\nok\nfault zero_divisor Y\nfault zero_divisor Z\nrefused no_such_result W\nrefused no_such_result W\nrefused no_mark M\n" }
+{}
+
+/// Degrees of freedom and reports: of eleven readings; of sums of inputs with degrees of freedom; of an input whose
+/// uncertainty is itself uncertain by 25 percent; an uncertainty that is rounded to 100; two inputs that are fully
+/// correlated; the impedance of JCGM 100:2008, H.2; spans that settle nothing; and the levels that are read.
+pub fn worked_reports()
+    ensures readings { out (codes "readings R 1 1 1 1 1 1 1 1 1 1 2\ndof R\nreport R\nexpanded R 95\n")
+        ≡ codes "ok\ndof R 10\nreport R 1.091 u 0.091\nexpanded R 1.09 U 0.20 k 2.23\n" }
+    ensures degrees { out (codes "given A 1 std 1 dof 5\ngiven B 1 std 2 dof 10\nlet S = A + B\ndof S\ngiven G 10 std 1 rel 25\ndof G\ngiven X 1 exact\ndof X\ngiven Y 1 std 1\ndof Y\n")
+        ≡ codes "ok\nok\nok\ndof S 13\nok\ndof G 8\nok\ndof X none\nok\ndof Y inf\n" }
+    ensures hundred { out (codes "given X 5 std 0.995\nreport X\nexpanded X 95.45\n")
+        ≡ codes "ok\nreport X 5.0 u 1.0\nexpanded X 5.0 U 2.0 k 2\n" }
+    ensures correlated { out (codes "given A 1 std 1\ngiven B 2 std 1\ncorr P A B -1\nlet S = A + B\nreport S\ndof S\nexpanded S 95\n")
+        ≡ codes "ok\nok\nok\nok\nreport S 3 u 0\ndof S none\nexpanded S 3 U 0 k 1.96\n" }
+    ensures impedance { out (codes "table T\nV,I\n5.007,19.663\n4.994,19.639\n5.005,19.640\n4.990,19.685\n4.999,19.678\nend\nlet Z = 1000*T.V/T.I\nreport Z\ndof Z\nexpanded Z 95\n")
+        ≡ codes "ok\nok\nreport Z 254.26 u 0.24\ndof Z 4\nexpanded Z 254.26 U 0.66 k 2.78\n" }
+    ensures unsettled { out (codes "given X 1 exact\nlet T = X/3\nreport T\nexpanded T 99\n")
+        ≡ codes "ok\nok\nreport T undecided\nexpanded T undecided\n" }
+    ensures levels { out (codes "given X 1 std 1\nexpanded X 95.0\nexpanded X\nexpanded X 95 1\nexpanded W 95\nexpanded X 99\n")
+        ≡ codes "ok\nrefused level\nrefused syntax 11\nrefused syntax 15\nrefused no_such_result W\nexpanded X 1.0 U 2.6 k 2.576\n" }
 {}
 
 /// Commands that are refused, and the order of two reasons that both apply. The sheet stays as it was.
