@@ -100,8 +100,8 @@ const REFUSED_COMMANDS: [(&str, &str); 33] = [
     ("sens T X", "no_such_result T"),
     ("sens Y W", "no_such_result W"),
     ("at M sens Y P", "no_such_result P"),
-    ("cov Y W", "no_such_result W"),
-    ("r W Y", "no_such_result W"),
+    ("cov Y y", "no_such_result y"),
+    ("r y Y", "no_such_result y"),
     ("at M dof P", "no_such_result P"),
 ];
 
