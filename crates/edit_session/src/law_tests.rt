@@ -3,11 +3,10 @@ ghost use Rattle.sheet_rows.specs.Rows.{row_of};
 ghost use Rattle.sheet_rows.specs.Regular.{IsRegular};
 
 use crate::Session;
-use crate::tests::{formula_row, letter};
+use crate::tests::{formula_row, letter, of_letter};
 use answers::{Answer, AskFault, Edit, Query};
 use decimal18::Dec;
 use fixed_interval::Steps;
-use formula_ast::Name;
 use round_out::{CorrSaid, Reported};
 use sheet_rows::Row;
 use std::alloc::Global;
@@ -103,13 +102,6 @@ fn query_of(ask: Ask) -> Option<Query> {
     Some(query)
 }
 
-fn of_letter(name: &Name) -> u8 {
-    match name.as_bytes() {
-        [byte] => *byte,
-        _ => b'?',
-    }
-}
-
 fn of_answer(answer: Result<Answer, AskFault>) -> Told {
     match &answer {
         Ok(Answer::Variance(_, span) | Answer::Covariance(_, _, span)) => {
@@ -132,7 +124,9 @@ fn of_answer(answer: Result<Answer, AskFault>) -> Told {
     }
 }
 
-fn add(session: &mut Session, row: Row) -> Result<(), Fail> {
+fn add(session: &mut Session, row: Row) -> Result<(), Fail>
+    requires { IsRegular (row_of row) }
+{
     match session.edit(Edit::Add(row)) {
         Ok(()) => Ok(()),
         Err(_) => Err("not added")?,

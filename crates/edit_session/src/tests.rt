@@ -174,7 +174,7 @@ pub(crate) fn formula_row(alloc: Global, byte: u8, text: &[u8]) -> Result<Row, F
     })
 }
 
-fn of_letter(name: &Name) -> u8 {
+pub(crate) fn of_letter(name: &Name) -> u8 {
     match name.as_bytes() {
         [byte] => *byte,
         _ => b'?',
