@@ -3,7 +3,8 @@
 use Rattle.std.specs.Prelude.{List, [], ◌∷◌, Option, Some, None, Ok, Err, IfOk, IfSome}
 use Rattle.answers.specs.Commands.{Command, IsRegularCommand}
 use Rattle.script_lines.specs.declared.item.Item.{Item}
-use Rattle.script_lines.specs.Commands.{Read, command_read}
+use Rattle.script_lines.specs.Parts.{Read}
+use Rattle.script_lines.specs.Commands.{command_read}
 use Rattle.edit_session.specs.Machine.{State, step}
 use Rattle.edit_session.specs.Sound.{asked, IsSoundOn}
 use Rattle.edit_session.specs.Standing.{IsStandingState}

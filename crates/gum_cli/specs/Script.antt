@@ -5,7 +5,8 @@ use Rattle.answers.specs.declared.reply.Reply.{Reply}
 use Rattle.answers.specs.declared.reply.Reply.TheVariants.{Line}
 use Rattle.script_lines.specs.declared.item.Item.{Item}
 use Rattle.script_lines.specs.Items.{items_of, whole_items_of}
-use Rattle.script_lines.specs.Commands.{Read, command_read}
+use Rattle.script_lines.specs.Parts.{Read}
+use Rattle.script_lines.specs.Commands.{command_read}
 use Rattle.script_lines.specs.Texts.{text_of_reply}
 use Rattle.edit_session.specs.Machine.{State, initial, step}
 use Rattle.edit_session.specs.Sound.{asked, IsSoundOn}
