@@ -6,7 +6,7 @@ use Rattle.std.proofs.Math.Bool.{or-false}
 use Rattle.std.proofs.lemmas.Bool.{and_right}
 use Rattle.std.proofs.lemmas.List.Folds.{list_any-append}
 use Rattle.formula_ast.specs.Names.{is_plain_name}
-use Rattle.sheet_rows.specs.Rows.{Row, Given, Readings, Joint, Correlation, Formula, name_of, column_name, column_names, row_part, quantities_of, gives, gives_input}
+use Rattle.sheet_rows.specs.Rows.{Row, Given, Readings, Joint, Correlation, Formula, Tolerance, name_of, column_name, column_names, row_part, quantities_of, gives, gives_input}
 use Rattle.sheet_rows.specs.Regular.{IsRegular, AreRegular}
 use Rattle.sheet_rows.specs.Sheets.{is_named, is_among, quantities_in, is_quantity_in, is_input_in, are_named_once}
 use Rattle.sheet_rows.proofs.Parts.{row_part-plain, row_part-column}
@@ -51,6 +51,7 @@ gives_part (Readings name table) n h e = sole_name n name h.0 e
 gives_part (Joint name columns table) n h e = column_part n name columns h.0 e
 gives_part (Correlation name first second coefficient) n h e = absurd (true≢false (sym e))
 gives_part (Formula name formula) n h e = sole_name n name h.0 e
+gives_part (Tolerance name rule) n h e = absurd (true≢false (sym e))
 
 gives_named : (r : Row) (n : List ℕ) → IsRegular r → gives r n ≡ (is_named (row_part n) r && gives r n)
 gives_named r n h = by (gives r n) refl where
@@ -82,6 +83,7 @@ input_gives (Readings name table) n e = e
 input_gives (Joint name columns table) n e = e
 input_gives (Correlation name first second coefficient) n e = e
 input_gives (Formula name formula) n e = absurd (true≢false (sym e))
+input_gives (Tolerance name rule) n e = absurd (true≢false (sym e))
 
 input_named : (r : Row) (n : List ℕ) → IsRegular r → gives_input r n ≡ (is_named (row_part n) r && gives_input r n)
 input_named r n h = by (gives_input r n) refl where

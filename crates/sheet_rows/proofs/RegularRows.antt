@@ -1,7 +1,7 @@
 -- Regular rows, in lists of rows, and their names.
 use Rattle.std.proofs.Common.{◌≡◌, ℕ, Bool, true, false, ◌||◌, List, [], ◌∷◌, ◌++◌, refl, sym, ap, ◌∙◌, true≢false}
 use Rattle.formula_ast.specs.Names.{is_plain_name}
-use Rattle.sheet_rows.specs.Rows.{Row, Given, Readings, Joint, Correlation, Formula, name_of}
+use Rattle.sheet_rows.specs.Rows.{Row, Given, Readings, Joint, Correlation, Formula, Tolerance, name_of}
 use Rattle.sheet_rows.specs.Regular.{IsRegular, AreRegular}
 use Rattle.sheet_rows.specs.Sheets.{is_named, is_among}
 use Rattle.sheet_rows.proofs.Tests.{same_name}
@@ -17,6 +17,7 @@ plain_row (Readings name table) h = h.0
 plain_row (Joint name columns table) h = h.0
 plain_row (Correlation name first second coefficient) h = h.0
 plain_row (Formula name formula) h = h.0
+plain_row (Tolerance name rule) h = h.0
 
 -- a name that is not plain is that of no row
 pub no_row : (rows : List Row) (n : List ℕ) → AreRegular rows → is_plain_name n ≡ false → is_among rows n ≡ false

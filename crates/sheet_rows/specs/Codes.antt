@@ -13,7 +13,10 @@ use Rattle.formula_ast.specs.Trees.{Tree, Number, Variable, Opposite, Joined, Ra
 use Rattle.formula_ast.specs.declared.token.Sign.{Sign}
 use Rattle.formula_ast.specs.declared.token.Sign.TheVariants.{Plus, Minus, Times, Over}
 use Rattle.type_a.specs.Tables.{Table}
-use Rattle.sheet_rows.specs.Rows.{Row, Given, Readings, Joint, Correlation, Formula, Sheet}
+use Rattle.guard_band.specs.declared.rule.Form.{Form}
+use Rattle.guard_band.specs.declared.rule.Form.TheVariants.{Binary, Four}
+use Rattle.guard_band.specs.declared.rule.Rule.{Rule}
+use Rattle.sheet_rows.specs.Rows.{Row, Given, Readings, Joint, Correlation, Formula, Tolerance, Sheet}
 
 coded_bound : Coded Bound
 coded_bound = code_by (ℤ × ℕ) (coded× coded_ℤ coded_ℕ) (λ b. (b.coefficient, b.places)) (λ p. scaled p.0 p.1) (λ _. refl)
@@ -190,24 +193,50 @@ dof_again (Rel percent) = refl
 coded_dof : Coded Dof
 coded_dof = code_by DofParts (coded_option (coded⊎ coded_ℕ coded_ℕ)) parts_of_dof dof_of dof_again
 
+-- the rule of a tolerance: a form by its number, beside the three numbers
+number_of_form : Form → ℕ
+number_of_form Binary = 0
+number_of_form Four = 1
+
+form_of : ℕ → Form
+form_of zero = Binary
+form_of (suc n) = Four
+
+form_again : (form : Form) → form_of (number_of_form form) ≡ form
+unfolding number_of_form form_of
+form_again Binary = refl
+form_again Four = refl
+
+coded_form : Coded Form
+coded_form = code_by ℕ coded_ℕ number_of_form form_of form_again
+
+coded_rule : Coded Rule
+coded_rule =
+    code_by (Option Bound × (Option Bound × (Bound × Form)))
+    (coded× (coded_option coded_bound) (coded× (coded_option coded_bound) (coded× coded_bound coded_form)))
+    (λ rule. (rule.lower, (rule.upper, (rule.guard, rule.form))))
+    (λ parts. record { lower = parts.0; upper = parts.1.0; guard = parts.1.1.0; form = parts.1.1.1 }) (λ _. refl)
+
 abbrev Fields : Type 0
 Fields =
     (List ℕ × (Bound × (Shape × Dof)))
-    ⊎ ((List ℕ × Table) ⊎ ((List ℕ × (List (List ℕ) × Table)) ⊎ ((List ℕ × (List ℕ × (List ℕ × Bound))) ⊎ (List ℕ × Tree))))
+    ⊎ ((List ℕ × Table) ⊎ ((List ℕ × (List (List ℕ) × Table)) ⊎ ((List ℕ × (List ℕ × (List ℕ × Bound))) ⊎ ((List ℕ × Tree) ⊎ (List ℕ × Rule)))))
 
 fields_of : Row → Fields
 fields_of (Given name estimate shape dof) = inl (name, (estimate, (shape, dof)))
 fields_of (Readings name table) = inr (inl (name, table))
 fields_of (Joint name columns table) = inr (inr (inl (name, (columns, table))))
 fields_of (Correlation name first second coefficient) = inr (inr (inr (inl (name, (first, (second, coefficient))))))
-fields_of (Formula name formula) = inr (inr (inr (inr (name, formula))))
+fields_of (Formula name formula) = inr (inr (inr (inr (inl (name, formula)))))
+fields_of (Tolerance name rule) = inr (inr (inr (inr (inr (name, rule)))))
 
 row_of_fields : Fields → Row
 row_of_fields (inl (name, (estimate, (shape, dof)))) = Given name estimate shape dof
 row_of_fields (inr (inl (name, table))) = Readings name table
 row_of_fields (inr (inr (inl (name, (columns, table))))) = Joint name columns table
 row_of_fields (inr (inr (inr (inl (name, (first, (second, coefficient))))))) = Correlation name first second coefficient
-row_of_fields (inr (inr (inr (inr (name, formula))))) = Formula name formula
+row_of_fields (inr (inr (inr (inr (inl (name, formula)))))) = Formula name formula
+row_of_fields (inr (inr (inr (inr (inr (name, rule)))))) = Tolerance name rule
 
 row_again : (row : Row) → row_of_fields (fields_of row) ≡ row
 unfolding fields_of row_of_fields
@@ -216,6 +245,7 @@ row_again (Readings name table) = refl
 row_again (Joint name columns table) = refl
 row_again (Correlation name first second coefficient) = refl
 row_again (Formula name formula) = refl
+row_again (Tolerance name rule) = refl
 
 pub coded_row : Coded Row
 coded_row =
@@ -224,7 +254,7 @@ coded_row =
     (coded⊎ (coded× (coded_list coded_ℕ) (coded_list (coded_list coded_bound)))
     (coded⊎ (coded× (coded_list coded_ℕ) (coded× (coded_list (coded_list coded_ℕ)) (coded_list (coded_list coded_bound))))
     (coded⊎ (coded× (coded_list coded_ℕ) (coded× (coded_list coded_ℕ) (coded× (coded_list coded_ℕ) coded_bound)))
-    (coded× (coded_list coded_ℕ) coded_tree)))))
+    (coded⊎ (coded× (coded_list coded_ℕ) coded_tree) (coded× (coded_list coded_ℕ) coded_rule))))))
     fields_of row_of_fields row_again
 
 -- ---- sheets

@@ -1,7 +1,8 @@
 -- When a sheet is well formed, and when it stands: what holds of each sheet that edits make.
-use Rattle.std.specs.Prelude.{◌≡◌, ◌≤◌, ◌&&◌, ℕ, Bool, true, not, if◌then◌else◌, List, [], ◌∷◌, ◌++◌, length, Option, None, Some, is_some, bytes_eq}
+use Rattle.std.specs.Prelude.{◌≡◌, ◌≤◌, ◌&&◌, ℕ, Bool, true, not, if◌then◌else◌, List, [], ◌∷◌, ◌++◌, length, Option, None, Some, is_some, option_and_then, find, bytes_eq}
 use Rattle.std.specs.List.{list_any, list_all}
-use Rattle.sheet_rows.specs.Rows.{Row, Sheet, Given, Readings, Joint, Correlation, Formula, name_of, used_names, quantities_of, gives_input, correlated_names, correlates, is_correlatable}
+use Rattle.guard_band.specs.declared.rule.Rule.{Rule}
+use Rattle.sheet_rows.specs.Rows.{Row, Sheet, Given, Readings, Joint, Correlation, Formula, Tolerance, name_of, used_names, quantities_of, gives_input, correlated_names, correlates, is_correlatable, row_rule}
 use Rattle.sheet_rows.specs.Regular.{AreRegular}
 
 -- ---- names
@@ -47,6 +48,7 @@ repeated_name (Readings name table) = None
 repeated_name (Joint name columns table) = None
 repeated_name (Correlation name first second coefficient) = if bytes_eq first second then Some second else None
 repeated_name (Formula name formula) = None
+repeated_name (Tolerance name rule) = None
 
 -- the inputs that the row correlates may be correlated, and are two
 abbrev pub are_correlatable : List Row → Row → Bool
@@ -59,6 +61,17 @@ is_correlated_apart rows row n = list_any (λ other. not (is_named (name_of row)
 -- no name that the row correlates is in another correlation
 abbrev pub are_apart : List Row → Row → Bool
 are_apart rows row = list_all (λ n. not (is_correlated_apart rows row n)) (correlated_names row)
+
+-- ---- rules of conformity
+-- the rule of the row of this name
+abbrev pub rule_in : List Row → List ℕ → Option Rule
+rule_in rows n = option_and_then row_rule (find (is_named n) rows)
+
+abbrev pub rule_of : Sheet → List ℕ → Option Rule
+rule_of sheet n = rule_in sheet.rows n
+
+abbrev pub has_rule : Sheet → List ℕ → Bool
+has_rule sheet n = is_some (rule_of sheet n)
 
 -- ---- well-formed sheets
 abbrev pub row_limit : ℕ

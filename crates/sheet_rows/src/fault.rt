@@ -35,6 +35,10 @@ pub enum RowFault {
     DofRange,
     /// The correlation coefficient is below -1 or above 1.
     RRange,
+    /// The guard factor of a tolerance is below 0, above 3, or has more than three decimals.
+    GuardRange,
+    /// The lower limit of a tolerance is above its upper one.
+    LimitOrder,
     /// There are fewer than 2 readings, or records of a table below its header.
     TooFew,
     /// There are more than 1,000 readings, or records of a table below its header.
@@ -46,8 +50,6 @@ pub enum RowFault {
     /// finest place of all readings. In a table the number is that of the first record with such a reading, the
     /// header being 1.
     Wide(usize),
-    /// The line goes on with a form of the language that this version does not have.
-    NotBuilt,
     /// There was no memory for the row.
     OutOfMemory,
 }

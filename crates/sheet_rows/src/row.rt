@@ -2,10 +2,11 @@ ghost use Rattle.std.specs.Prelude.{◌≡◌, ◌+◌, ◌≤◌, true, [], ◌
 ghost use Rattle.std.specs.List.{list_any};
 ghost use Rattle.formula_ast.specs.Names.{is_plain_name};
 ghost use Rattle.formula_ast.specs.Trees.{distinct};
-ghost use Rattle.sheet_rows.specs.Rows.{row_of, name_of, names_used, column_name, column_names, gives, gives_input, correlates, is_correlatable};
+ghost use Rattle.sheet_rows.specs.Rows.{row_of, name_of, names_used, column_name, column_names, gives, gives_input, correlates, is_correlatable, row_rule};
 
 use decimal18::Dec;
 use formula_ast::{Formula, Name, NameList, names};
+use guard_band::Rule;
 use line_text::OutOfMemory;
 use std::alloc::Global;
 use std::rc::Rc;
@@ -61,6 +62,13 @@ pub enum Row {
         /// The measurement function.
         formula: Rc<Formula>,
     },
+    /// A rule by which statements of conformity are made (ILAC-G8:09/2019, 4.2.2, 4.2.3).
+    Tolerance {
+        /// The name of the row, which is no quantity.
+        name: Name,
+        /// The limits, in the unit of the quantity that is asked for, and the guard band.
+        rule: Rule,
+    },
 }
 
 impl Row {
@@ -74,6 +82,7 @@ impl Row {
             Row::Joint { name, .. } => name,
             Row::Correlation { name, .. } => name,
             Row::Formula { name, .. } => name,
+            Row::Tolerance { name, .. } => name,
         }
     }
 
@@ -86,7 +95,8 @@ impl Row {
         ensures { IfOk result (λ names. names ≡ names_used (row_of self.now)) }
     {
         match self {
-            Row::Given { .. } | Row::Readings { .. } | Row::Joint { .. } => NameList::new(alloc),
+            Row::Given { .. } | Row::Readings { .. } | Row::Joint { .. } | Row::Tolerance { .. } =>
+                NameList::new(alloc),
             Row::Correlation { first, second, .. } => names_of_two(alloc, *first, *second),
             Row::Formula { formula, .. } => names(alloc, formula),
         }
@@ -104,7 +114,7 @@ impl Row {
                 columns,
                 ..
             } => is_of_columns(name, table, columns.as_slice()),
-            Row::Correlation { .. } => false,
+            Row::Correlation { .. } | Row::Tolerance { .. } => false,
             Row::Formula { name: own, .. } => own == name,
         }
     }
@@ -115,7 +125,7 @@ impl Row {
     {
         match self {
             Row::Given { .. } | Row::Readings { .. } | Row::Joint { .. } => self.gives(name),
-            Row::Correlation { .. } | Row::Formula { .. } => false,
+            Row::Correlation { .. } | Row::Formula { .. } | Row::Tolerance { .. } => false,
         }
     }
 
@@ -141,6 +151,16 @@ impl Row {
                 ..
             } => states_deviation(shape),
             _ => false,
+        }
+    }
+
+    /// The rule, where the row is one.
+    pub fn rule(&self) -> Option<Rule>
+        ensures { result ≡ row_rule (row_of self.now) }
+    {
+        match self {
+            Row::Tolerance { rule, .. } => Some(*rule),
+            _ => None,
         }
     }
 }
