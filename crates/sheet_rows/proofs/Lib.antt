@@ -4,3 +4,4 @@ pub mod Tests
 pub mod Named
 pub mod RegularRows
 pub mod Quantities
+pub mod Rules

@@ -1,10 +1,11 @@
 -- Small sheets, by which the definitions can be read. A name is a letter, by its number in ASCII: A is 65.
-use Rattle.std.specs.Prelude.{ℕ, List, [], ◌∷◌, ◌++◌, map, pos}
+use Rattle.std.specs.Prelude.{ℕ, List, [], ◌∷◌, ◌++◌, map, pos, None, Some}
 use Rattle.decimal18.specs.Bound.{Bound, scaled}
 use Rattle.formula_ast.specs.Trees.{Variable}
 use Rattle.type_b.specs.declared.shape.Shape.TheVariants.{Std, Rect}
 use Rattle.type_b.specs.declared.shape.Dof.TheVariants.{Inf, Whole}
-use Rattle.sheet_rows.specs.Rows.{Row, Sheet, Given, Readings, Joint, Correlation, Formula, column_name}
+use Rattle.guard_band.specs.declared.rule.Form.TheVariants.{Binary}
+use Rattle.sheet_rows.specs.Rows.{Row, Sheet, Given, Readings, Joint, Correlation, Formula, Tolerance, column_name}
 
 abbrev pub named : ℕ → List ℕ
 named letter = letter ∷ []
@@ -38,6 +39,10 @@ same_as_column letter other column = Formula (named letter) (Variable (column_na
 -- the correlation of two inputs, in tenths
 abbrev pub correlation : ℕ → ℕ → ℕ → ℕ → Row
 correlation letter first second tenths = Correlation (named letter) (named first) (named second) (scaled (pos tenths) 1)
+
+-- the rule with this upper limit alone, and a guard band of one expanded uncertainty
+abbrev pub at_most : ℕ → ℕ → Row
+at_most letter limit = Tolerance (named letter) (record { lower = None; upper = Some (whole limit); guard = whole 1; form = Binary })
 
 -- the quantity that is another one
 abbrev pub same_as : ℕ → ℕ → Row
