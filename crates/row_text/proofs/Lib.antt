@@ -10,6 +10,7 @@ pub mod JoinedTexts
 pub mod WrittenRecords
 pub mod PrintedReadings
 pub mod PrintedCorrelations
+pub mod PrintedTolerances
 pub mod ReadNumbers
 pub mod PrintedTables
 pub mod PrintedRows

@@ -1,6 +1,6 @@
 -- What a line gives as a row is never out of memory.
-use Rattle.std.proofs.Common.{◌≡◌, ◌≢◌, ℕ, Bool, true, false, cond, nat_lt, List, [], ◌∷◌, ◌+◌, length, drop, map, ◌==◌, Result, Option, None, Some, Ok, Err, IfErr, refl, subst}
-use Rattle.std.specs.Prelude.{codes, bytes_eq, if◌then◌else◌}
+use Rattle.std.proofs.Common.{◌≡◌, ◌≢◌, ℕ, Bool, true, false, cond, ◌||◌, ◌&&◌, nat_lt, List, [], ◌∷◌, ◌+◌, length, drop, map, ◌==◌, Result, Option, None, Some, Ok, Err, IfErr, refl, subst}
+use Rattle.std.specs.Prelude.{codes, bytes_eq, is_some, if◌then◌else◌}
 use Rattle.std.specs.List.{position_from}
 use Rattle.decimal18.specs.Bound.{Bound}
 use Rattle.decimal18.specs.Literal.{parsed}
@@ -29,18 +29,19 @@ use Rattle.type_a.specs.Tables.{single}
 use Rattle.type_a.specs.declared.readings.ReadingsFault.{ReadingsFault}
 use Rattle.type_a.specs.declared.readings.ReadingsFault.TheVariants.{TooFew as FewReadings, TooMany as ManyReadings, Shape as OtherWidth, Wide as WideReading, OutOfMemory as ReadingsMemory}
 use Rattle.sheet_rows.specs.Faults.{readings_fault, records_fault}
-use Rattle.sheet_rows.specs.Regular.{is_coefficient}
+use Rattle.sheet_rows.specs.Regular.{is_coefficient, is_guard, are_ordered}
 use Rattle.row_text.specs.Readings.{numbers_of, table_taken, readings_of_words}
 use Rattle.row_text.specs.Tables.{sole_name, head_name, records_taken, below_header, below_taken, joint_of, table_at, table_read}
 use Rattle.row_text.specs.Correlations.{coefficient_checked, corr_of}
+use Rattle.row_text.specs.Tolerances.{limit_word, guard_word, form_word, guard_checked, order_checked, tolerance_of}
 use Rattle.row_text.specs.Parts.{Read, then_read, any_word, plain_word, name_word, number_of, number_word, ended}
 use Rattle.row_text.specs.Givens.{kind_of, level_of, with_number, with_numbers, with_level, shape_of_kind, shape_named, shape_word, dof_of, rel_of, degrees_word, shape_checked, degrees_checked, given_of}
-use Rattle.row_text.specs.Reading.{is_other_kind, past_blanks, leading_name, name_at, begins_equals, equals_at, formula_fault, formula_in, formula_at, let_of, row_at, row_read}
+use Rattle.row_text.specs.Reading.{past_blanks, leading_name, name_at, begins_equals, equals_at, formula_fault, formula_in, formula_at, let_of, row_at, row_read}
 use Rattle.row_text.specs.declared.read_shape.ShapeKind.{ShapeKind}
 use Rattle.row_text.specs.declared.read_shape.ShapeKind.TheVariants.{Exact as ExactKind, Std as StdKind, Exp as ExpKind, Norm as NormKind, Rect as RectKind, Tri as TriKind, Trap as TrapKind, Arcsine as ArcsineKind}
 use Rattle.sheet_rows.specs.declared.row.Row.{Row as CodeRow}
 use Rattle.sheet_rows.specs.declared.fault.RowFault.{RowFault}
-use Rattle.sheet_rows.specs.declared.fault.RowFault.TheVariants.{Syntax, NotNumber, NumberRange, UnknownFunction, BadPower, TooDeep, TooManyNodes, Negative, ZeroK, Beta, Level, DofRange, RRange, TooFew, TooMany, Shape as OtherRecord, Wide, NotBuilt, OutOfMemory}
+use Rattle.sheet_rows.specs.declared.fault.RowFault.TheVariants.{Syntax, NotNumber, NumberRange, UnknownFunction, BadPower, TooDeep, TooManyNodes, Negative, ZeroK, Beta, Level, DofRange, RRange, GuardRange, LimitOrder, TooFew, TooMany, Shape as OtherRecord, Wide, OutOfMemory}
 
 abbrev IsNoMemory : RowFault → Type 0
 IsNoMemory OutOfMemory = ⊥
@@ -57,11 +58,12 @@ IsNoMemory Beta = Unit {0}
 IsNoMemory Level = Unit {0}
 IsNoMemory DofRange = Unit {0}
 IsNoMemory RRange = Unit {0}
+IsNoMemory GuardRange = Unit {0}
+IsNoMemory LimitOrder = Unit {0}
 IsNoMemory TooFew = Unit {0}
 IsNoMemory TooMany = Unit {0}
 IsNoMemory (OtherRecord k) = Unit {0}
 IsNoMemory (Wide k) = Unit {0}
-IsNoMemory NotBuilt = Unit {0}
 
 abbrev IfFailed : {A : Type 0} → Read A → Type 0
 IfFailed (Ok x) = Unit {0}
@@ -183,6 +185,42 @@ corr_takes_none (Ok row) end ws h e = cc
 corr_takes_none (Err fault) end ws h e =
     let out : fault ≡ OutOfMemory = cc in
     subst IfFailed (subst (λ f. corr_of end ws ≡ Err f) out h) (corr_failed end ws)
+
+-- nor does that of a rule of conformity
+limit_failed : (keyword : List ℕ) (end : ℕ) (ws : List Word) → IfFailed (limit_word keyword end ws)
+limit_failed keyword end [] = tt
+limit_failed keyword end (w ∷ ws) =
+    cond_failed (bytes_eq w.text keyword) (then_read (number_word end ws) (λ limit. Ok (record { item = Some limit.item; rest = limit.rest })))
+    (Ok (record { item = None; rest = w ∷ ws })) (then_failed (number_word end ws) _ (number_failed end ws) (λ limit. tt)) tt
+
+guard_failed : (limited : Bool) (end : ℕ) (ws : List Word) → IfFailed (guard_word limited end ws)
+guard_failed limited end [] = tt
+guard_failed limited end (w ∷ ws) =
+    cond_failed (limited && bytes_eq w.text (codes "guard")) (number_word end ws) (Err (Syntax (w.place + 1))) (number_failed end ws) tt
+
+form_failed : (ws : List Word) → IfFailed (form_word ws)
+form_failed [] = tt
+form_failed (w ∷ ws) = cond_failed (bytes_eq w.text (codes "four")) _ (Err (Syntax (w.place + 1))) tt tt
+
+tolerance_failed : (end : ℕ) (ws : List Word) → IfFailed (tolerance_of end ws)
+tolerance_failed end ws =
+    then_failed (plain_word end ws) _ (plain_failed end ws) (λ name.
+    then_failed (limit_word (codes "lower") end name.rest) _ (limit_failed (codes "lower") end name.rest) (λ lower.
+    then_failed (limit_word (codes "upper") end lower.rest) _ (limit_failed (codes "upper") end lower.rest) (λ upper.
+    then_failed (guard_word (is_some lower.item || is_some upper.item) end upper.rest) _
+    (guard_failed (is_some lower.item || is_some upper.item) end upper.rest) (λ guard.
+    then_failed (form_word guard.rest) _ (form_failed guard.rest) (λ form.
+    then_failed (ended form.rest) _ (ended_failed form.rest) (λ done.
+    then_failed (guard_checked guard.item) _ (cond_failed (is_guard guard.item) (Ok guard.item) (Err GuardRange) tt tt) (λ factor.
+    then_failed (order_checked lower.item upper.item) _ (cond_failed (are_ordered lower.item upper.item) (Ok tt) (Err LimitOrder) tt tt)
+    (λ fine. tt))))))))
+
+pub tolerance_takes_none : (r : Result CodeRow RowFault) (end : ℕ) (ws : List Word) → IfErr r (λ fault. tolerance_of end ws ≡ Err fault)
+    → r ≢ Err OutOfMemory
+tolerance_takes_none (Ok row) end ws h e = cc
+tolerance_takes_none (Err fault) end ws h e =
+    let out : fault ≡ OutOfMemory = cc in
+    subst IfFailed (subst (λ f. tolerance_of end ws ≡ Err f) out h) (tolerance_failed end ws)
 
 -- ---- readings
 numbers_failed : (ws : List Word) → IfFailed (numbers_of ws)
@@ -336,8 +374,9 @@ row_failed line (w ∷ ws) =
     cond_failed (bytes_eq w.text (codes "given")) _ _ (given_failed (length line) ws)
     (cond_failed (bytes_eq w.text (codes "readings")) _ _ (readings_failed (length line) ws)
     (cond_failed (bytes_eq w.text (codes "corr")) _ _ (corr_failed (length line) ws)
-    (cond_failed (bytes_eq w.text (codes "let")) (let_of line (w.place + length w.text)) (if is_other_kind w.text then Err NotBuilt else Err (Syntax (w.place + 1)))
-    (let_failed line (w.place + length w.text)) (cond_failed (is_other_kind w.text) (Err NotBuilt) (Err (Syntax (w.place + 1))) tt tt))))
+    (cond_failed (bytes_eq w.text (codes "let")) (let_of line (w.place + length w.text)) (if bytes_eq w.text (codes "tol") then tolerance_of (length line) ws else Err (Syntax (w.place + 1)))
+    (let_failed line (w.place + length w.text))
+    (cond_failed (bytes_eq w.text (codes "tol")) (tolerance_of (length line) ws) (Err (Syntax (w.place + 1))) (tolerance_failed (length line) ws) tt))))
 
 pub row_never : (line : List ℕ) (ws : List Word) → row_at line ws ≢ Err OutOfMemory
 row_never line ws h = subst IfFailed h (row_failed line ws)

@@ -11,7 +11,7 @@ use Rattle.formula_ast.proofs.Again.{read_regular}
 use Rattle.line_text.specs.Blanks.{is_blank}
 use Rattle.line_text.specs.Words.{written_part}
 use Rattle.line_text.proofs.WrittenTexts.{run_whole, IsSolid, solid_written, solid_after, one_word, no_blanks}
-use Rattle.sheet_rows.specs.Rows.{Row, Given, Readings, Joint, Correlation, Formula, is_table}
+use Rattle.sheet_rows.specs.Rows.{Row, Given, Readings, Joint, Correlation, Formula, Tolerance, is_table}
 use Rattle.row_text.specs.Reading.{past_blanks, leading_name, is_in_name, begins_equals, let_of, row_at, row_from, row_read}
 use Rattle.sheet_rows.specs.Regular.{IsRegular}
 use Rattle.row_text.specs.Printing.{printed}
@@ -20,6 +20,7 @@ use Rattle.row_text.proofs.PlainBytes.{ArePlain, all_in_word, all_no_hash, all_i
 use Rattle.row_text.proofs.SolidTexts.{print_solid}
 use Rattle.row_text.proofs.PrintedReadings.{readings_line, readings_text, readings_solid, readings_row}
 use Rattle.row_text.proofs.PrintedCorrelations.{corr_line, corr_text, corr_solid, corr_row}
+use Rattle.row_text.proofs.PrintedTolerances.{tolerance_line, tolerance_text, tolerance_solid, tolerance_row}
 use Rattle.row_text.proofs.PrintedGivens.{given_line, given_text, given_solid, given_row}
 
 -- the printed text, grouped from its end
@@ -93,3 +94,6 @@ read_again (Formula name f) h line =
     line_again (printed (Formula name f)) (let_line name (print f)) (Formula name f) (formula_text name f)
     (formula_solid name f h.0 (print_solid f (read_regular (print f) f h.1)))
     (formula_row name f h.0 h.1)
+read_again (Tolerance name rule) h line =
+    line_again (printed (Tolerance name rule)) (tolerance_line name rule) (Tolerance name rule) (tolerance_text name rule)
+    (tolerance_solid name rule h) (tolerance_row name rule h)

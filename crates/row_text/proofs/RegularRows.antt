@@ -1,7 +1,7 @@
 -- What lines give are regular rows.
-use Rattle.std.proofs.Common.{◌≡◌, ℕ, suc, ◌+◌, ◌≤◌, ◌==◌, map, ap, Bool, true, false, cond, List, [], ◌∷◌, length, drop, refl, subst, arith, Option, None, Some, Result, Ok, Err, IfOk}
-use Rattle.std.specs.Prelude.{codes, bytes_eq, option_map, IfSome, if◌then◌else◌}
-use Rattle.std.proofs.lemmas.Bool.{eqb-true}
+use Rattle.std.proofs.Common.{◌≡◌, ℕ, suc, ◌+◌, ◌≤◌, ◌==◌, map, ap, Bool, true, false, ◌&&◌, ◌||◌, cond, List, [], ◌∷◌, length, drop, refl, subst, arith, Option, None, Some, Result, Ok, Err, IfOk}
+use Rattle.std.specs.Prelude.{codes, bytes_eq, option_map, is_some, IfSome, if◌then◌else◌}
+use Rattle.std.proofs.lemmas.Bool.{eqb-true, and_parts}
 use Rattle.std.proofs.lemmas.Bool.Decides.{nat_tests}
 use Rattle.decimal18.specs.Bound.{Bound, canonical, IsCanonical, IsDecimal}
 use Rattle.decimal18.specs.Literal.{Literal, literal_of, exact_of, is_bound, as_bound, read, parsed}
@@ -39,13 +39,14 @@ use Rattle.row_text.specs.Readings.{numbers_of, table_taken, readings_of_words}
 use Rattle.row_text.specs.Tables.{sole_name, head_name, records_taken, below_taken, joint_of, table_at, table_read}
 use Rattle.row_text.proofs.Widths.{AreOfWidth, width_is}
 use Rattle.row_text.specs.Correlations.{coefficient_checked, corr_of}
+use Rattle.row_text.specs.Tolerances.{limit_word, guard_word, form_word, guard_checked, order_checked, tolerance_of}
 use Rattle.row_text.specs.Parts.{Read, then_read, Parsed, any_word, plain_word, name_word, number_of, number_word, ended}
 use Rattle.row_text.specs.Givens.{kind_of, level_of, with_number, with_numbers, with_level, shape_of_kind, shape_named, shape_word, whole_of, allowed, dof_of, rel_of, degrees_word, shape_checked, degrees_checked, given_of}
-use Rattle.row_text.specs.Reading.{is_other_kind, past_blanks, leading_name, name_at, equals_at, formula_in, formula_at, let_of, row_at, row_read}
+use Rattle.row_text.specs.Reading.{past_blanks, leading_name, name_at, equals_at, formula_in, formula_at, let_of, row_at, row_read}
 use Rattle.row_text.specs.declared.read_shape.ShapeKind.{ShapeKind}
 use Rattle.row_text.specs.declared.read_shape.ShapeKind.TheVariants.{Exact as ExactKind, Std as StdKind, Exp as ExpKind, Norm as NormKind, Rect as RectKind, Tri as TriKind, Trap as TrapKind, Arcsine as ArcsineKind}
-use Rattle.sheet_rows.specs.Regular.{IsRegular, AreDecimals, AllAreDecimals, is_coefficient}
-use Rattle.sheet_rows.specs.declared.fault.RowFault.TheVariants.{Syntax, RRange, NotBuilt, OutOfMemory}
+use Rattle.sheet_rows.specs.Regular.{IsRegular, AreDecimals, AllAreDecimals, is_coefficient, is_guard, are_ordered}
+use Rattle.sheet_rows.specs.declared.fault.RowFault.TheVariants.{Syntax, RRange, GuardRange, LimitOrder, OutOfMemory}
 
 -- ---- numbers
 bound_decimal : (c : Bound) (t : Bool) → is_bound c ≡ t → IsCanonical c → (b : Bound) → cond t (Some c) None ≡ Some b → IsDecimal b
@@ -364,6 +365,49 @@ corr_ok end ws =
     then_ok (λ r. IsDecimal r × (is_coefficient r ≡ true)) IsRegular (coefficient_checked number.item) _ (coefficient_ok number.item decimal) (λ r has.
     (plain, one, other, has.0, has.1)))))))
 
+-- ---- rules of conformity
+abbrev IsLimit : Parsed (Option Bound) → Type 0
+IsLimit x = IfSome x.item IsDecimal
+
+limit_ok : (keyword : List ℕ) (end : ℕ) (ws : List Word) → IfOk (limit_word keyword end ws) IsLimit
+limit_ok keyword end [] = tt
+limit_ok keyword end (w ∷ ws) =
+    cond_ok IsLimit (bytes_eq w.text keyword) (then_read (number_word end ws) (λ limit. Ok (record { item = Some limit.item; rest = limit.rest })))
+    (Ok (record { item = None; rest = w ∷ ws }))
+    (λ e. then_ok (λ x. IsDecimal x.item) IsLimit (number_word end ws) _ (number_ok end ws) (λ limit decimal. decimal)) tt
+
+with_limit : (limited : Bool) (r : Read (Parsed Bound)) → limited ≡ true → IfOk r (λ x. IsDecimal x.item)
+    → IfOk r (λ x. IsDecimal x.item × (limited ≡ true))
+with_limit limited (Ok x) e h = (h, e)
+with_limit limited (Err fault) e h = tt
+
+guard_ok : (limited : Bool) (end : ℕ) (ws : List Word) → IfOk (guard_word limited end ws) (λ x. IsDecimal x.item × (limited ≡ true))
+guard_ok limited end [] = tt
+guard_ok limited end (w ∷ ws) =
+    let guards : Bool = bytes_eq w.text (codes "guard") in
+    cond_ok (λ x. IsDecimal x.item × (limited ≡ true)) (limited && guards) (number_word end ws) (Err (Syntax (w.place + 1)))
+    (λ e. with_limit limited (number_word end ws) (and_parts limited guards e).0 (number_ok end ws)) tt
+
+factor_ok : (b : Bound) → IsDecimal b → IfOk (guard_checked b) (λ r. IsDecimal r × (is_guard r ≡ true))
+factor_ok b d = cond_ok (λ r. IsDecimal r × (is_guard r ≡ true)) (is_guard b) (Ok b) (Err GuardRange) (λ within. (d, within)) tt
+
+order_ok : (lower upper : Option Bound) → IfOk (order_checked lower upper) (λ done. are_ordered lower upper ≡ true)
+order_ok lower upper = cond_ok (λ done. are_ordered lower upper ≡ true) (are_ordered lower upper) (Ok tt) (Err LimitOrder) (λ order. order) tt
+
+tolerance_ok : (end : ℕ) (ws : List Word) → IfOk (tolerance_of end ws) IsRegular
+tolerance_ok end ws =
+    then_ok (λ x. is_plain_name x.item ≡ true) IsRegular (plain_word end ws) _ (plain_ok end ws) (λ name plain.
+    then_ok IsLimit IsRegular (limit_word (codes "lower") end name.rest) _ (limit_ok (codes "lower") end name.rest) (λ lower low.
+    then_ok IsLimit IsRegular (limit_word (codes "upper") end lower.rest) _ (limit_ok (codes "upper") end lower.rest) (λ upper high.
+    then_ok (λ x. IsDecimal x.item × ((is_some lower.item || is_some upper.item) ≡ true)) IsRegular
+    (guard_word (is_some lower.item || is_some upper.item) end upper.rest) _
+    (guard_ok (is_some lower.item || is_some upper.item) end upper.rest) (λ guard limited.
+    then_ok (λ x. Unit {0}) IsRegular (form_word guard.rest) _ (any_ok (form_word guard.rest)) (λ form u.
+    then_ok (λ x. Unit {0}) IsRegular (ended form.rest) _ (any_ok (ended form.rest)) (λ done v.
+    then_ok (λ r. IsDecimal r × (is_guard r ≡ true)) IsRegular (guard_checked guard.item) _ (factor_ok guard.item limited.0) (λ factor within.
+    then_ok (λ x. are_ordered lower.item upper.item ≡ true) IsRegular (order_checked lower.item upper.item) _ (order_ok lower.item upper.item)
+    (λ fine order. (plain, (low, high, within.0), record { limit = limited.1; guard = within.1; order = order })))))))))
+
 -- ---- formulas
 -- the printed formula is read as the formula again
 abbrev IsReadAgain : Tree → Type 0
@@ -390,8 +434,9 @@ row_regular line (w ∷ ws) =
     cond_ok IsRegular (bytes_eq w.text (codes "given")) (given_of (length line) ws) _ (λ e. given_ok (length line) ws)
     (cond_ok IsRegular (bytes_eq w.text (codes "readings")) (readings_of_words (length line) ws) _ (λ e. readings_ok (length line) ws)
     (cond_ok IsRegular (bytes_eq w.text (codes "corr")) (corr_of (length line) ws) _ (λ e. corr_ok (length line) ws)
-    (cond_ok IsRegular (bytes_eq w.text (codes "let")) (let_of line (w.place + length w.text)) (if is_other_kind w.text then Err NotBuilt else Err (Syntax (w.place + 1)))
-    (λ e. let_ok line (w.place + length w.text)) (cond_ok IsRegular (is_other_kind w.text) (Err NotBuilt) (Err (Syntax (w.place + 1))) (λ e. tt) tt))))
+    (cond_ok IsRegular (bytes_eq w.text (codes "let")) (let_of line (w.place + length w.text)) (if bytes_eq w.text (codes "tol") then tolerance_of (length line) ws else Err (Syntax (w.place + 1)))
+    (λ e. let_ok line (w.place + length w.text))
+    (cond_ok IsRegular (bytes_eq w.text (codes "tol")) (tolerance_of (length line) ws) (Err (Syntax (w.place + 1))) (λ e. tolerance_ok (length line) ws) tt))))
 
 pub read_regular : (line : List ℕ) (from : ℕ) → IfOk (row_read line from) IsRegular
 unfolding row_read

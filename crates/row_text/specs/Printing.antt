@@ -1,6 +1,6 @@
 -- The printed text of a row: single blanks between its words, and numbers in their own form. A table is printed as
 -- the line that opens it, its block and the line that ends it: fields with commas between them, without blanks or quotes.
-use Rattle.std.specs.Prelude.{ℕ, List, [], ◌∷◌, ◌++◌, map, get_or, pos, codes, decimal}
+use Rattle.std.specs.Prelude.{ℕ, List, [], ◌∷◌, ◌++◌, map, get_or, Option, None, Some, pos, codes, decimal}
 use Rattle.std.specs.List.{join_with_byte}
 use Rattle.csv.specs.Writing.{comma}
 use Rattle.decimal18.specs.Bound.{Bound, scaled}
@@ -11,7 +11,10 @@ use Rattle.type_b.specs.declared.shape.Shape.TheVariants.{Exact, Std, Exp, Norm,
 use Rattle.type_b.specs.declared.shape.Dof.{Dof}
 use Rattle.type_b.specs.declared.shape.Dof.TheVariants.{Inf, Whole, Rel}
 use Rattle.type_a.specs.Tables.{Record, Table}
-use Rattle.sheet_rows.specs.Rows.{Row, Given, Readings, Joint, Correlation, Formula}
+use Rattle.guard_band.specs.declared.rule.Form.{Form}
+use Rattle.guard_band.specs.declared.rule.Form.TheVariants.{Binary, Four}
+use Rattle.guard_band.specs.declared.rule.Rule.{Rule}
+use Rattle.sheet_rows.specs.Rows.{Row, Given, Readings, Joint, Correlation, Formula, Tolerance}
 
 abbrev pub shape_text : Shape → List ℕ
 shape_text Exact = codes "exact"
@@ -60,6 +63,22 @@ head_text name = codes "table " ++ name
 abbrev pub block_text : List (List ℕ) → Table → List ℕ
 block_text columns t = line_of_fields columns ++ records_text t
 
+-- ---- rules of conformity
+-- the limit after this word, where there is one
+abbrev pub limit_text : List ℕ → Option Bound → List ℕ
+limit_text word None = []
+limit_text word (Some limit) = word ++ text_of limit
+
+-- nothing for two outcomes
+abbrev pub form_text : Form → List ℕ
+form_text Binary = []
+form_text Four = codes " four"
+
+abbrev pub rule_text : Rule → List ℕ
+rule_text rule =
+    limit_text (codes " lower ") rule.lower ++ limit_text (codes " upper ") rule.upper ++ codes " guard " ++ text_of rule.guard
+    ++ form_text rule.form
+
 -- ---- rows
 abbrev pub printed : Row → List ℕ
 printed (Given name estimate shape dof) =
@@ -69,3 +88,4 @@ printed (Joint name columns table) = head_text name ++ codes "\n" ++ block_text 
 printed (Correlation name first second coefficient) =
     codes "corr " ++ name ++ codes " " ++ first ++ codes " " ++ second ++ codes " " ++ text_of coefficient
 printed (Formula name f) = codes "let " ++ name ++ codes " = " ++ print f
+printed (Tolerance name rule) = codes "tol " ++ name ++ rule_text rule

@@ -17,12 +17,9 @@ use Rattle.row_text.specs.Parts.{Read, then_read}
 use Rattle.row_text.specs.Givens.{given_of}
 use Rattle.row_text.specs.Readings.{readings_of_words}
 use Rattle.row_text.specs.Correlations.{corr_of}
+use Rattle.row_text.specs.Tolerances.{tolerance_of}
 use Rattle.sheet_rows.specs.declared.fault.RowFault.{RowFault}
-use Rattle.sheet_rows.specs.declared.fault.RowFault.TheVariants.{Syntax, NotNumber, NumberRange, UnknownFunction, BadPower, TooDeep, TooManyNodes, NotBuilt, OutOfMemory}
-
--- ---- the kind of row of the language that this version does not have
-abbrev pub is_other_kind : List ℕ → Bool
-is_other_kind text = bytes_eq text (codes "tol")
+use Rattle.sheet_rows.specs.declared.fault.RowFault.TheVariants.{Syntax, NotNumber, NumberRange, UnknownFunction, BadPower, TooDeep, TooManyNodes, OutOfMemory}
 
 -- ---- formulas: the blanks round `=` may be missing
 -- what was read, and the place after it
@@ -92,7 +89,7 @@ row_at line (w ∷ ws) =
     if bytes_eq w.text (codes "readings") then readings_of_words (length line) ws else
     if bytes_eq w.text (codes "corr") then corr_of (length line) ws else
     if bytes_eq w.text (codes "let") then let_of line (w.place + length w.text) else
-    if is_other_kind w.text then Err NotBuilt else Err (Syntax (w.place + 1))
+    if bytes_eq w.text (codes "tol") then tolerance_of (length line) ws else Err (Syntax (w.place + 1))
 
 -- whether these words are to give a row by readings or a formula row: no other row's reading takes memory
 abbrev pub take_memory : List Word → Bool

@@ -14,9 +14,12 @@ mod read_readings;
 mod read_shape;
 #[cfg(test)]
 mod read_tests;
+mod read_tolerance;
 mod reading_laws;
 #[cfg(test)]
 mod table_tests;
+#[cfg(test)]
+mod tolerance_tests;
 mod worked;
 
 pub use print::print_row;
@@ -25,5 +28,5 @@ pub use read_joint::{TABLE, read_table, read_table_words};
 pub use reading_laws::{printed_rows_are_read_again, rows_are_never_out_of_memory};
 pub use worked::{
     worked_correlations, worked_degrees, worked_other_kinds, worked_readings, worked_refusals,
-    worked_shapes, worked_tables, worked_texts,
+    worked_shapes, worked_tables, worked_texts, worked_tolerances,
 };

@@ -3,11 +3,12 @@ ghost use Rattle.decimal18.specs.Text.{text_of};
 ghost use Rattle.type_a.specs.Tables.{width_of};
 ghost use Rattle.sheet_rows.specs.Rows.{row_of};
 ghost use Rattle.sheet_rows.specs.Regular.{IsRegular};
-ghost use Rattle.row_text.specs.Printing.{shape_text, degrees_text, one_column, numbers_text, printed};
+ghost use Rattle.row_text.specs.Printing.{shape_text, degrees_text, one_column, numbers_text, limit_text, rule_text, printed};
 
 use crate::print_table::put_table;
 use decimal18::Dec;
-use formula_ast::print_formula;
+use formula_ast::{Name, print_formula};
+use guard_band::{Form, Rule};
 use itoa::Buffer;
 use line_text::{Bytes, OutOfMemory};
 use sheet_rows::Row;
@@ -83,6 +84,42 @@ fn put_readings(alloc: Global, out: &mut Bytes, readings: &Readings) -> Result<(
     Ok(())
 }
 
+/// Puts the limit after these words at the end, where there is one.
+fn put_limit(
+    alloc: Global,
+    out: &mut Bytes,
+    words: &[u8],
+    limit: &Option<Dec>,
+) -> Result<(), OutOfMemory>
+    ensures { OnOk result (out.new ≡ out.old ++ limit_text words.now limit.now) }
+{
+    match limit {
+        Some(limit) => put_number(alloc, out, words, limit),
+        None => Ok(()),
+    }
+}
+
+/// Puts the text of the rule of conformity at the end.
+fn put_rule(alloc: Global, out: &mut Bytes, rule: &Rule) -> Result<(), OutOfMemory>
+    ensures { OnOk result (out.new ≡ out.old ++ rule_text rule.now) }
+{
+    put_limit(alloc, out, b" lower ", &rule.lower)?;
+    put_limit(alloc, out, b" upper ", &rule.upper)?;
+    put_number(alloc, out, b" guard ", &rule.guard)?;
+    match rule.form {
+        Form::Binary => Ok(()),
+        Form::Four => out.extend_from_slice(b" four"),
+    }
+}
+
+/// Puts the words and the name after them at the end.
+fn put_name(out: &mut Bytes, words: &[u8], name: &Name) -> Result<(), OutOfMemory>
+    ensures { OnOk result (out.new ≡ out.old ++ words.now ++ name.now) }
+{
+    out.extend_from_slice(words)?;
+    out.extend_from_slice(name.as_bytes())
+}
+
 /// Puts the text of the row at the end.
 fn put_row(alloc: Global, out: &mut Bytes, row: &Row) -> Result<(), OutOfMemory>
     requires { IsRegular (row_of row.now) }
@@ -95,17 +132,14 @@ fn put_row(alloc: Global, out: &mut Bytes, row: &Row) -> Result<(), OutOfMemory>
             shape,
             dof,
         } => {
-            out.extend_from_slice(b"given ")?;
-            out.extend_from_slice(name.as_bytes())?;
-            out.push(b' ')?;
-            out.extend_from_slice(estimate.print(alloc)?.as_slice())?;
+            put_name(out, b"given ", name)?;
+            put_number(alloc, out, b" ", estimate)?;
             out.push(b' ')?;
             put_shape(alloc, out, shape)?;
             put_degrees(out, dof)
         }
         Row::Readings { name, readings } => {
-            out.extend_from_slice(b"readings ")?;
-            out.extend_from_slice(name.as_bytes())?;
+            put_name(out, b"readings ", name)?;
             put_readings(alloc, out, readings)
         }
         Row::Joint {
@@ -119,26 +153,27 @@ fn put_row(alloc: Global, out: &mut Bytes, row: &Row) -> Result<(), OutOfMemory>
             second,
             coefficient,
         } => {
-            out.extend_from_slice(b"corr ")?;
-            out.extend_from_slice(name.as_bytes())?;
-            out.push(b' ')?;
-            out.extend_from_slice(first.as_bytes())?;
-            out.push(b' ')?;
-            out.extend_from_slice(second.as_bytes())?;
+            put_name(out, b"corr ", name)?;
+            put_name(out, b" ", first)?;
+            put_name(out, b" ", second)?;
             put_number(alloc, out, b" ", coefficient)
         }
         Row::Formula { name, formula } => {
-            out.extend_from_slice(b"let ")?;
-            out.extend_from_slice(name.as_bytes())?;
+            put_name(out, b"let ", name)?;
             out.extend_from_slice(b" = ")?;
             out.extend_from_slice(print_formula(alloc, formula)?.as_slice())
+        }
+        Row::Tolerance { name, rule } => {
+            put_name(out, b"tol ", name)?;
+            put_rule(alloc, out, rule)
         }
     }
 }
 
 /// The text of the row: `given NAME ESTIMATE SHAPE`, with ` dof N` or ` rel PERCENT` where the degrees of freedom are
 /// not infinitely many, `readings NAME NUMBER NUMBER ..`, `corr NAME FIRST SECOND COEFFICIENT`, `let NAME = FORMULA`,
-/// or a table: the line `table NAME`, a line of the names of its columns and one for each record, with commas and
+/// `tol NAME lower LOWER upper UPPER guard FACTOR four` without the limit that it does not have and without `four` for
+/// two outcomes, or a table: the line `table NAME`, a line of the names of its columns and one for each record, with commas and
 /// neither blanks nor quotes, and then `end`.
 ///
 /// # Errors

@@ -3,12 +3,13 @@ ghost use Rattle.line_text.specs.Memory.{GivesBy};
 ghost use Rattle.line_text.specs.Words.{word_of, words_left, words_from, written_part};
 ghost use Rattle.sheet_rows.specs.Rows.{row_of};
 ghost use Rattle.sheet_rows.specs.Regular.{IsRegular};
-ghost use Rattle.row_text.specs.Reading.{is_other_kind, take_memory, row_at, row_read};
+ghost use Rattle.row_text.specs.Reading.{take_memory, row_at, row_read};
 
 use crate::read_corr::read_corr;
 use crate::read_given::read_given;
 use crate::read_let::read_let;
 use crate::read_readings::read_readings;
+use crate::read_tolerance::read_tolerance;
 use line_text::{Word, Words, written_part};
 use sheet_rows::{Row, RowFault};
 use std::alloc::Global;
@@ -21,15 +22,7 @@ const CORR: &[u8] = b"corr";
 
 const LET: &[u8] = b"let";
 
-// The kind of row that this version does not have.
 const TOL: &[u8] = b"tol";
-
-/// Whether the word begins a kind of row that this version does not have.
-fn is_other_kind(word: &[u8]) -> bool
-    ensures { result ≡ is_other_kind word.now }
-{
-    word == TOL
-}
 
 /// The row that the word `first` begins, where `words` are those after it in the line, which has no comment and
 /// no last blanks.
@@ -56,8 +49,8 @@ pub fn read_begun_row(alloc: Global, first: &Word<'_>, words: Words<'_>) -> Resu
     if first.text == LET {
         return read_let(alloc, words.line(), words.at());
     }
-    if is_other_kind(first.text) {
-        return Err(RowFault::NotBuilt);
+    if first.text == TOL {
+        return read_tolerance(words);
     }
     Err(RowFault::Syntax(first.place + 1))
 }

@@ -5,7 +5,7 @@ use std::alloc::Global;
 use std::test::Fail;
 
 /// Lines that give no row, and why. Places are counted from 1.
-const REFUSED: [(&str, RowFault); 104] = [
+const REFUSED: [(&str, RowFault); 103] = [
     ("", RowFault::Syntax(1)),
     (" \t ", RowFault::Syntax(1)),
     ("# given X 1 exact", RowFault::Syntax(1)),
@@ -110,7 +110,6 @@ const REFUSED: [(&str, RowFault); 104] = [
     ("corr P A B 1.000000000000000001", RowFault::NumberRange(12)),
     ("corr P A B -1.00000000000000001", RowFault::RRange),
     ("table T", RowFault::Syntax(1)),
-    ("tol X 1", RowFault::NotBuilt),
     ("value X", RowFault::Syntax(1)),
     ("  foo given X 5 exact", RowFault::Syntax(3)),
 ];
@@ -157,7 +156,8 @@ const READ: [(&str, &str); 29] = [
     ),
 ];
 
-fn fault_of(alloc: Global, line: &[u8], from: usize) -> Option<RowFault> {
+/// The refusal of the line from this byte on, if it gives no row.
+pub(crate) fn fault_of(alloc: Global, line: &[u8], from: usize) -> Option<RowFault> {
     match read_row(alloc, line, from) {
         Ok(_) => None,
         Err(fault) => Some(fault),

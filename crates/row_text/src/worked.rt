@@ -1,15 +1,16 @@
 //! Worked rows. Each function has an empty body, and its clauses are theorems on the definitions.
 
-ghost use Rattle.std.specs.Prelude.{◌≡◌, [], ◌∷◌, pos, negsuc, Ok, Err, codes};
+ghost use Rattle.std.specs.Prelude.{◌≡◌, [], ◌∷◌, None, Some, pos, negsuc, Ok, Err, codes};
 ghost use Rattle.decimal18.specs.Bound.{scaled};
 ghost use Rattle.type_b.specs.declared.shape.Shape.TheVariants.{Exact, Std, Exp, Norm, Rect, Tri, Trap, Arcsine};
 ghost use Rattle.type_b.specs.declared.shape.Dof.TheVariants.{Inf, Whole, Rel};
 ghost use Rattle.type_a.specs.Tables.{single};
-ghost use Rattle.sheet_rows.specs.Rows.{Given, Readings, Joint, Correlation};
+ghost use Rattle.guard_band.specs.declared.rule.Form.TheVariants.{Binary, Four};
+ghost use Rattle.sheet_rows.specs.Rows.{Given, Readings, Joint, Correlation, Tolerance};
 ghost use Rattle.row_text.specs.Reading.{row_read};
 ghost use Rattle.row_text.specs.Tables.{table_read};
 ghost use Rattle.row_text.specs.Printing.{printed};
-ghost use Rattle.sheet_rows.specs.declared.fault.RowFault.TheVariants.{Syntax, NotNumber, NumberRange, Negative, ZeroK, Beta, Level, DofRange, RRange, TooFew, Shape, Wide, NotBuilt};
+ghost use Rattle.sheet_rows.specs.declared.fault.RowFault.TheVariants.{Syntax, NotNumber, NumberRange, Negative, ZeroK, Beta, Level, DofRange, RRange, GuardRange, LimitOrder, TooFew, Shape, Wide};
 
 /// The word of each shape, with its parameters in their order.
 pub fn worked_shapes()
@@ -84,10 +85,10 @@ pub fn worked_tables()
     ensures line_first { table_read (codes "table 2") 0 [] ≡ Err (Syntax 7) }
 {}
 
-/// A line without a block gives no table.
+/// A line without a block gives no table, and no row begins with another word.
 pub fn worked_other_kinds()
     ensures table { row_read (codes "table T") 0 ≡ Err (Syntax 1) }
-    ensures tolerance { row_read (codes "tol X 1") 0 ≡ Err NotBuilt }
+    ensures other { row_read (codes "tolerance T upper 1 guard 1") 0 ≡ Err (Syntax 1) }
 {}
 
 /// Correlations.
@@ -104,6 +105,31 @@ pub fn worked_correlations()
     ensures other_name { row_read (codes "corr P A 0.5") 0 ≡ Err (Syntax 10) }
 {}
 
+/// Rules of conformity. The guard factor is looked at before the order of the limits, and both when all words are read.
+pub fn worked_tolerances()
+    ensures both { row_read (codes "tol T lower 1 upper 2.50 guard 0.125 four") 0 ≡ Ok (Tolerance (codes "T")
+        (record { lower = Some (scaled (pos 1) 0); upper = Some (scaled (pos 25) 1); guard = scaled (pos 125) 3; form = Four })) }
+    ensures lower { row_read (codes "tol T lower -1 guard 0") 0 ≡ Ok (Tolerance (codes "T")
+        (record { lower = Some (scaled (negsuc 0) 0); upper = None; guard = scaled (pos 0) 0; form = Binary })) }
+    ensures upper { row_read (codes "tol T upper 2 guard 3") 0 ≡ Ok (Tolerance (codes "T")
+        (record { lower = None; upper = Some (scaled (pos 2) 0); guard = scaled (pos 3) 0; form = Binary })) }
+    ensures equal { row_read (codes "tol T lower 1 upper 1 guard 0.5000") 0 ≡ Ok (Tolerance (codes "T")
+        (record { lower = Some (scaled (pos 1) 0); upper = Some (scaled (pos 1) 0); guard = scaled (pos 5) 1; form = Binary })) }
+    ensures no_limit { row_read (codes "tol T guard 1") 0 ≡ Err (Syntax 7) }
+    ensures no_guard { row_read (codes "tol T lower 1") 0 ≡ Err (Syntax 14) }
+    ensures other_order { row_read (codes "tol T upper 2 lower 1 guard 1") 0 ≡ Err (Syntax 15) }
+    ensures other_word { row_read (codes "tol T lower 1 guard 1 five") 0 ≡ Err (Syntax 23) }
+    ensures word_more { row_read (codes "tol T lower 1 guard 1 four 4") 0 ≡ Err (Syntax 28) }
+    ensures number { row_read (codes "tol T lower x guard 1") 0 ≡ Err (NotNumber 13) }
+    ensures name { row_read (codes "tol T.V upper 1 guard 1") 0 ≡ Err (Syntax 5) }
+    ensures above { row_read (codes "tol T upper 1 guard 3.001") 0 ≡ Err GuardRange }
+    ensures below { row_read (codes "tol T upper 1 guard -0.001") 0 ≡ Err GuardRange }
+    ensures decimals { row_read (codes "tol T upper 1 guard 0.0005") 0 ≡ Err GuardRange }
+    ensures word_first { row_read (codes "tol T lower 2 upper 1 guard 4 five") 0 ≡ Err (Syntax 31) }
+    ensures guard_first { row_read (codes "tol T lower 2 upper 1 guard 4") 0 ≡ Err GuardRange }
+    ensures order { row_read (codes "tol T lower 2 upper 1 guard 1") 0 ≡ Err LimitOrder }
+{}
+
 /// Rows as they are printed.
 pub fn worked_texts()
     ensures infinite { printed (Given (codes "X") (scaled (pos 5) 0) (Exp (scaled (pos 5) 2) (scaled (pos 2) 0)) Inf) ≡ codes "given X 5 exp 0.05 2" }
@@ -114,4 +140,9 @@ pub fn worked_texts()
         ((scaled (pos 1) 0 ∷ scaled (pos 2) 0 ∷ []) ∷ (scaled (pos 3) 0 ∷ scaled (pos 45) 1 ∷ []) ∷ [])) ≡ codes "table PLAIN\nA,B\n1,2\n3,4.5\nend" }
     ensures one_column { printed (Joint (codes "T") (codes "V" ∷ []) (single (scaled (negsuc 0) 0 ∷ scaled (pos 0) 0 ∷ []))) ≡ codes "table T\nV\n-1\n0\nend" }
     ensures correlation { printed (Correlation (codes "P") (codes "A") (codes "B") (scaled (negsuc 4) 1)) ≡ codes "corr P A B -0.5" }
+    ensures limits { printed (Tolerance (codes "T")
+        (record { lower = Some (scaled (negsuc 0) 0); upper = Some (scaled (pos 25) 1); guard = scaled (pos 5) 1; form = Four }))
+        ≡ codes "tol T lower -1 upper 2.5 guard 0.5 four" }
+    ensures limit { printed (Tolerance (codes "T") (record { lower = None; upper = Some (scaled (pos 2) 0); guard = scaled (pos 1) 0; form = Binary }))
+        ≡ codes "tol T upper 2 guard 1" }
 {}

@@ -6,6 +6,6 @@ pub returns-clause-table : goal.returns-clause-table
 unfolding row_read
 returns-clause-table c = refl
 
-pub returns-clause-tolerance : goal.returns-clause-tolerance
+pub returns-clause-other : goal.returns-clause-other
 unfolding row_read
-returns-clause-tolerance c = refl
+returns-clause-other c = refl

@@ -29,3 +29,11 @@ returns-clause-table c = refl
 pub returns-clause-one_column : goal.returns-clause-one_column
 unfolding digits
 returns-clause-one_column c = refl
+
+pub returns-clause-limits : goal.returns-clause-limits
+unfolding digits
+returns-clause-limits c = refl
+
+pub returns-clause-limit : goal.returns-clause-limit
+unfolding digits
+returns-clause-limit c = refl
