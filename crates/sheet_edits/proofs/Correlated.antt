@@ -6,7 +6,7 @@ use Rattle.std.specs.Option.{option_or}
 use Rattle.std.proofs.Math.Bool.{or-false}
 use Rattle.std.proofs.lemmas.Bool.{and_parts, and_from}
 use Rattle.std.proofs.lemmas.List.Folds.{list_any-append, list_all-append}
-use Rattle.sheet_rows.specs.Rows.{Row, Sheet, Given, Readings, Joint, Correlation, Formula, name_of, used_names, correlated_names, correlates}
+use Rattle.sheet_rows.specs.Rows.{Row, Sheet, Given, Readings, Joint, Correlation, Formula, Tolerance, name_of, used_names, correlated_names, correlates}
 use Rattle.sheet_rows.specs.Sheets.{is_named, is_correlatable_in, repeated_name, are_correlatable, is_correlated_apart, are_apart}
 use Rattle.sheet_edits.specs.Verdicts.{rows_with, rows_without, first_not_correlatable, first_correlated}
 use Rattle.sheet_rows.proofs.Tests.{none_all, all_none, all_more, all_two, all_true, all_pairs, none_passes, none_found, found_of_none, list_all_agree, named_itself, other_way, both_ways_same}
@@ -18,6 +18,7 @@ correlated_used (Readings name table) p h = refl
 correlated_used (Joint name columns table) p h = refl
 correlated_used (Correlation name first second coefficient) p h = h
 correlated_used (Formula name formula) p h = refl
+correlated_used (Tolerance name rule) p h = refl
 
 -- ---- the refusals are where a clause fails
 or_none : (a b : Option (List ℕ)) → option_or a b ≡ None → (a ≡ None) × (b ≡ None)

@@ -6,7 +6,7 @@ use Rattle.std.specs.Option.{option_map}
 use Rattle.std.proofs.Math.Bool.{or-false}
 use Rattle.std.proofs.lemmas.Bool.{and_parts, and_from, and_right, not_from_true, not_from_false}
 use Rattle.sheet_rows.specs.Regular.{IsRegular, AreRegular}
-use Rattle.sheet_rows.specs.Rows.{Row, Sheet, Given, Readings, Joint, Correlation, Formula, name_of, row_part, used_names, gives, is_table, correlated_names, correlates, is_correlatable}
+use Rattle.sheet_rows.specs.Rows.{Row, Sheet, Given, Readings, Joint, Correlation, Formula, Tolerance, name_of, row_part, used_names, gives, is_table, correlated_names, correlates, is_correlatable}
 use Rattle.sheet_rows.specs.declared.edit_fault.EditFault.TheVariants.{InUse}
 use Rattle.sheet_rows.specs.Sheets.{IsWellFormed, is_named, has_row, is_quantity_in, is_correlatable_in, repeated_name, are_known, are_correlatable}
 use Rattle.sheet_edits.specs.Verdicts.{rows_with, set_row, unless, is_left_without, unless_left}
@@ -69,6 +69,7 @@ lossless (Readings name table) row n h k = sole_name (Readings name table) row n
 lossless (Joint name columns table) row n h k = absurd (true≢false (sym h))
 lossless (Correlation name first second coefficient) row n h k = refl
 lossless (Formula name formula) row n h k = sole_name (Formula name formula) row n name k
+lossless (Tolerance name rule) row n h k = refl
 
 not_any : (a b : Bool) → (not a && not b) ≡ not (a || b)
 not_any true b = refl

@@ -3,7 +3,7 @@ use Rattle.std.proofs.Common.{◌≡◌, ◌≤◌, ℕ, suc, Bool, true, false,
 use Rattle.std.specs.Prelude.{bytes_eq, find}
 use Rattle.std.specs.Option.{option_map}
 use Rattle.std.specs.List.{list_any, list_all}
-use Rattle.sheet_rows.specs.Rows.{Row, Sheet, Given, Readings, Joint, Correlation, Formula, name_of, row_part, used_names, gives, correlated_names, is_correlatable}
+use Rattle.sheet_rows.specs.Rows.{Row, Sheet, Given, Readings, Joint, Correlation, Formula, Tolerance, name_of, row_part, used_names, gives, correlated_names, is_correlatable}
 use Rattle.sheet_rows.specs.Regular.{IsRegular, AreRegular}
 use Rattle.sheet_rows.specs.declared.edit_fault.EditFault.TheVariants.{InUse}
 use Rattle.sheet_rows.specs.Sheets.{IsWellFormed, is_named, is_among, has_row, is_quantity_in, is_correlatable_in, repeated_name, are_known, are_correlatable, are_named_once, are_earlier}
@@ -122,6 +122,7 @@ module _ (n : List ℕ) (row : Row) where
   correlatable_given (Joint name columns table) u h = and_right (bytes_eq u name) false refl
   correlatable_given (Correlation name first second coefficient) u h = and_right (bytes_eq u name) false refl
   correlatable_given (Formula name formula) u h = and_right (bytes_eq u name) false refl
+  correlatable_given (Tolerance name rule) u h = and_right (bytes_eq u name) false refl
 
   -- the inputs that a row correlates are other ones
   correlatable_agree : (sheet : List Row) (us : List (List ℕ)) → find (is_named n) sheet ≡ Some row → list_any (gives row) us ≡ false

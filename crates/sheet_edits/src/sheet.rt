@@ -1,11 +1,12 @@
 ghost use Rattle.std.specs.Prelude.{◌≡◌, ◌<◌, map, length, find, None, Some, remove, slice_get, IfOk, OnOk, OnErr};
 ghost use Rattle.std.specs.Option.{option_map};
 ghost use Rattle.sheet_rows.specs.Rows.{empty_sheet, row_of, row_part};
-ghost use Rattle.sheet_rows.specs.Sheets.{IsStanding, is_named, has_quantity, has_input, is_correlatable_in};
+ghost use Rattle.sheet_rows.specs.Sheets.{IsStanding, is_named, has_quantity, has_input, is_correlatable_in, rule_of};
 ghost use Rattle.sheet_edits.specs.Verdicts.{added, set_row};
 ghost use Rattle.sheet_edits.specs.Places.{place_of, code_name};
 
 use formula_ast::{Name, cut};
+use guard_band::Rule;
 use indexmap::IndexMap;
 use line_text::OutOfMemory;
 use sheet_rows::Row;
@@ -82,6 +83,16 @@ impl Sheet {
         match self.row_of_quantity(name) {
             Some(row) => row.gives_input(name),
             None => false,
+        }
+    }
+
+    /// The rule of the tolerance of this name, where it is that of one.
+    pub fn rule(&self, name: &Name) -> Option<Rule>
+        ensures { result ≡ rule_of self.now name.now }
+    {
+        match self.row_named(name) {
+            Some(row) => row.rule(),
+            None => None,
         }
     }
 

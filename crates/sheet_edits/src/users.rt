@@ -48,7 +48,8 @@ fn uses_lost(other: &Row, old: &Row, new: Option<&Row>) -> bool
     ensures { result ≡ list_any (loses (row_of old.now) (option_map (λ row. row_of row.now) new.entry)) (used_names (row_of other.now)) }
 {
     match other {
-        Row::Given { .. } | Row::Readings { .. } | Row::Joint { .. } => false,
+        Row::Given { .. } | Row::Readings { .. } | Row::Joint { .. } | Row::Tolerance { .. } =>
+            false,
         Row::Correlation { first, second, .. } => {
             loses(old, new, first) || loses(old, new, second)
         }
