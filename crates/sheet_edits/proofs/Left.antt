@@ -14,7 +14,7 @@ use Rattle.sheet_edits.specs.Places.{is_left_by, loses, loses_nothing}
 use Rattle.sheet_rows.proofs.Tests.{all_more, all_two, found_of_none, same_name, named_itself, both_ways_same}
 use Rattle.sheet_edits.proofs.Correlated.{correlatable_more, all_set}
 use Rattle.sheet_rows.proofs.Named.{holds, has_found}
-use Rattle.sheet_edits.proofs.Regular.{regular_found}
+use Rattle.sheet_rows.proofs.RegularRows.{regular_found}
 use Rattle.sheet_rows.proofs.Quantities.{gives_part, quantity_found}
 use Rattle.sheet_edits.proofs.Verdicts.{set_known, set_correlatable, found_any, found_named}
 

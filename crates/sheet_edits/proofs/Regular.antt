@@ -1,11 +1,9 @@
 -- Regular rows, after a row was set or taken out.
-use Rattle.std.proofs.Common.{◌≡◌, ℕ, zero, suc, Bool, true, false, cond, List, [], ◌∷◌, take, Some, subst}
-use Rattle.std.specs.Prelude.{find}
+use Rattle.std.proofs.Common.{ℕ, zero, suc, Bool, true, false, cond, List, [], ◌∷◌, take}
 use Rattle.sheet_rows.specs.Rows.{Row, name_of}
 use Rattle.sheet_rows.specs.Regular.{IsRegular, AreRegular}
 use Rattle.sheet_rows.specs.Sheets.{is_named}
 use Rattle.sheet_edits.specs.Verdicts.{rows_with, rows_without}
-use Rattle.sheet_edits.proofs.Positions.{some_same}
 
 cond_regular : (t : Bool) (a b : List Row) → AreRegular a → AreRegular b → AreRegular (cond t a b)
 cond_regular true a b h g = h
@@ -23,10 +21,3 @@ pub regular_taken : (k : ℕ) (rows : List Row) → AreRegular rows → AreRegul
 regular_taken zero rows h = tt
 regular_taken (suc k) [] h = tt
 regular_taken (suc k) (r ∷ rs) h = (h.0, regular_taken k rs h.1)
-
-pub regular_found : (p : Row → Bool) (rows : List Row) (row : Row) → AreRegular rows → find p rows ≡ Some row → IsRegular row
-regular_found p [] row h e = absurd (cc)
-regular_found p (r ∷ rs) row h e = by (p r) e (regular_found p rs row h.1) where
-  by : (t : Bool) → cond t (Some r) (find p rs) ≡ Some row → (find p rs ≡ Some row → IsRegular row) → IsRegular row
-  by true f rest = subst IsRegular (some_same f) h.0
-  by false f rest = rest f

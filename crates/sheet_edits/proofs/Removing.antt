@@ -15,7 +15,8 @@ use Rattle.sheet_edits.proofs.Conditions.{err_ok, ok_same, unless_ok}
 use Rattle.sheet_rows.proofs.Tests.{none_of, same_name}
 use Rattle.sheet_edits.proofs.Positions.{some_same}
 use Rattle.sheet_rows.proofs.RegularRows.{regular_added}
-use Rattle.sheet_edits.proofs.Regular.{regular_removed, regular_found}
+use Rattle.sheet_edits.proofs.Regular.{regular_removed}
+use Rattle.sheet_rows.proofs.RegularRows.{regular_found}
 use Rattle.sheet_edits.proofs.Correlated.{correlated_used, part, apart_after_removed}
 use Rattle.sheet_rows.proofs.Quantities.{quantity_any, quantity_last, quantity_append, gives_part, no_quantity}
 use Rattle.sheet_edits.proofs.Verdicts.{missing_find, found_any, found_named}

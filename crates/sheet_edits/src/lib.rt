@@ -16,4 +16,4 @@ pub use laws::{
     the_empty_sheet_stands,
 };
 pub use sheet::Sheet;
-pub use worked::{worked_additions, worked_removals, worked_settings};
+pub use worked::{worked_additions, worked_removals, worked_rules, worked_settings};

@@ -1,5 +1,5 @@
 -- Rules of conformity: those of regular rows are rules by which statements can be made.
-use Rattle.std.proofs.Common.{◌≡◌, ℕ, Bool, true, false, ◌&&◌, cond, List, [], ◌∷◌, Some, ap, subst}
+use Rattle.std.proofs.Common.{◌≡◌, ℕ, Bool, ◌&&◌, List, Option, None, Some, refl, ap, subst}
 use Rattle.std.specs.Prelude.{find, nat_le, option_and_then, unwrap_or, pos}
 use Rattle.std.proofs.lemmas.Bool.{and_parts}
 use Rattle.exact_fraction.specs.Number.{of_ℤ, is_at_most_ℚ}
@@ -9,6 +9,7 @@ use Rattle.guard_band.specs.Statements.{IsRule}
 use Rattle.sheet_rows.specs.Rows.{Row, Given, Readings, Joint, Correlation, Formula, Tolerance, row_rule}
 use Rattle.sheet_rows.specs.Regular.{IsRegular, AreRegular, IsRegularRule}
 use Rattle.sheet_rows.specs.Sheets.{is_named, rule_in}
+use Rattle.sheet_rows.proofs.RegularRows.{regular_found}
 
 pub regular_is_rule : (rule : Rule) → IsRegularRule rule → IsRule rule
 regular_is_rule rule h =
@@ -26,14 +27,12 @@ of_row (Correlation name first second coefficient) rule h e = absurd (cc)
 of_row (Formula name formula) rule h e = absurd (cc)
 of_row (Tolerance name own) rule h e = subst IsRegularRule (ap (λ r. unwrap_or r own) e) h.2
 
--- a rule that a regular row of the sheet gives is regular
+-- a rule of regular rows is regular
 pub rule_regular : (rows : List Row) (n : List ℕ) (rule : Rule) → AreRegular rows → rule_in rows n ≡ Some rule → IsRegularRule rule
-rule_regular [] n rule h e = absurd (cc)
-rule_regular (r ∷ rs) n rule h e = by (is_named n r) e (rule_regular rs n rule h.1) where
-  by : (t : Bool) → option_and_then row_rule (cond t (Some r) (find (is_named n) rs)) ≡ Some rule
-      → (rule_in rs n ≡ Some rule → IsRegularRule rule) → IsRegularRule rule
-  by true f rest = of_row r rule h.0 f
-  by false f rest = rest f
+rule_regular rows n rule h e = by (find (is_named n) rows) refl e where
+  by : (o : Option Row) → find (is_named n) rows ≡ o → option_and_then row_rule o ≡ Some rule → IsRegularRule rule
+  by None f g = absurd (cc)
+  by (Some row) f g = of_row row rule (regular_found (is_named n) rows row h f) g
 
 pub rule_stands : (rows : List Row) (n : List ℕ) (rule : Rule) → AreRegular rows → rule_in rows n ≡ Some rule → IsRule rule
 rule_stands rows n rule h e = regular_is_rule rule (rule_regular rows n rule h e)
