@@ -1,7 +1,7 @@
 -- Replies whose rows are regular.
 use Rattle.sheet_rows.specs.Regular.{AreRegular}
 use Rattle.answers.specs.declared.reply.Answer.{Answer}
-use Rattle.answers.specs.declared.reply.Answer.TheVariants.{Value, Variance, Covariance, Correlation, Sensitivity, Degrees, Report, Expanded, Dump, ValueFault, LawOverflow}
+use Rattle.answers.specs.declared.reply.Answer.TheVariants.{Value, Variance, Covariance, Correlation, Sensitivity, Degrees, Report, Expanded, Decision, Budget, Dump, ValueFault, LawOverflow}
 use Rattle.answers.specs.declared.reply.Reply.{Reply}
 use Rattle.answers.specs.declared.reply.Reply.TheVariants.{Fine, Line, Edit, History, Mark, Ask, Said}
 
@@ -14,6 +14,8 @@ IsRegularAnswer (Sensitivity name input span) = Unit {0}
 IsRegularAnswer (Degrees name said) = Unit {0}
 IsRegularAnswer (Report name said) = Unit {0}
 IsRegularAnswer (Expanded name said factor) = Unit {0}
+IsRegularAnswer (Decision name rule said) = Unit {0}
+IsRegularAnswer (Budget lines name variance) = Unit {0}
 IsRegularAnswer (Dump rows) = AreRegular rows
 IsRegularAnswer (ValueFault fault row) = Unit {0}
 IsRegularAnswer LawOverflow = Unit {0}

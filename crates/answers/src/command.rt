@@ -35,6 +35,12 @@ pub enum Query {
     /// How are the quantity of this name and its expanded uncertainty at this level of confidence reported (JCGM
     /// 100:2008, 6.2.1, 7.2.6, G.4.1)?
     Expanded(Name, Level),
+    /// What does the rule of the second name state on the quantity of the first, with its expanded uncertainty at this
+    /// level of confidence (ILAC-G8:09/2019, 4.2.2, 4.2.3)?
+    Decide(Name, Name, Level),
+    /// What does each input, and each group of inputs, bring to the variance of the quantity of this name (JCGM
+    /// 100:2008, 5.1.3)?
+    Budget(Name),
     /// Which rows are there?
     Dump,
 }

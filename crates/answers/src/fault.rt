@@ -29,7 +29,7 @@ pub enum MarkFault {
 pub enum AskFault {
     /// No mark has this name.
     NoMark(Name),
-    /// No quantity has this name; or no elementary input has, where one is asked for.
+    /// No quantity has this name; or no elementary input, or no rule of conformity, has it where one is asked for.
     NoSuchResult(Name),
     /// There was no memory for the answer.
     OutOfMemory,
@@ -50,8 +50,6 @@ pub enum LineFault {
     LongTable,
     /// The input ends inside the table block.
     UnclosedTable,
-    /// The command is known, and is not there yet.
-    NotBuilt,
     /// There was no memory for the command.
     OutOfMemory,
 }

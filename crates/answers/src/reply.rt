@@ -1,7 +1,9 @@
 use crate::fault::{AskFault, HistoryFault, LineFault, MarkFault};
+use budget_table::BudgetLines;
 use decimal18::Dec;
 use fixed_interval::{ArithFault, Span};
 use formula_ast::Name;
+use guard_band::Said;
 use round_out::{CorrSaid, Reported};
 use sheet_rows::{EditFault, RowList};
 use table_g2::DofSaid;
@@ -31,6 +33,12 @@ pub enum Answer {
     /// 100:2008, 6.2.1, 7.2.6), with this coverage factor. Where nothing is settled, the factor is the least that there
     /// may be.
     Expanded(Name, Reported, Dec),
+    /// This is said of the conformity of the quantity of the first name by the rule of the second (ILAC-G8:09/2019,
+    /// 4.2.2, 4.2.3).
+    Decision(Name, Name, Said),
+    /// These inputs, and these groups of them, bring so much to the variance of the quantity of this name, which is in
+    /// this interval, in the square of the quantity's unit (JCGM 100:2008, 5.1.3).
+    Budget(BudgetLines, Name, Span),
     /// These are the rows, in their order.
     Dump(RowList),
     /// The quantity has no interval: this fault arose in the row of this name.
