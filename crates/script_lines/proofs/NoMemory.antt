@@ -12,18 +12,18 @@ use Rattle.row_text.specs.Tables.{table_at}
 use Rattle.row_text.proofs.NoMemory.{row_never, table_never}
 use Rattle.answers.specs.Commands.{Add, Set, Remove, Change, Undo, Redo, Mark, Restore, Ask, AskAt}
 use Rattle.answers.specs.declared.command.Query.{Query}
-use Rattle.answers.specs.declared.command.Query.TheVariants.{Value, Variance, Covariance, Correlation, Sensitivity, Degrees, Report, Expanded, Dump}
+use Rattle.answers.specs.declared.command.Query.TheVariants.{Value, Variance, Covariance, Correlation, Sensitivity, Degrees, Report, Expanded, Decide, Budget, Dump}
 use Rattle.answers.specs.declared.fault.LineFault.{LineFault}
-use Rattle.answers.specs.declared.fault.LineFault.TheVariants.{Syntax, Row as RowRefused, Level as LevelRefused, LongLine as LineTooLong, LongTable as TableTooLong, UnclosedTable as TableUnclosed, NotBuilt, OutOfMemory}
+use Rattle.answers.specs.declared.fault.LineFault.TheVariants.{Syntax, Row as RowRefused, Level as LevelRefused, LongLine as LineTooLong, LongTable as TableTooLong, UnclosedTable as TableUnclosed, OutOfMemory}
 use Rattle.table_g2.specs.declared.known.Level.{Level}
 use Rattle.script_lines.specs.declared.verb.QueryWord.{QueryWord}
-use Rattle.script_lines.specs.declared.verb.QueryWord.TheVariants.{Value as ValueWord, Variance as VarianceWord, Covariance as CovarianceWord, Correlation as CorrelationWord, Sensitivity as SensitivityWord, Degrees as DegreesWord, Report as ReportWord, Expanded as ExpandedWord, Dump as DumpWord, Later as LaterWord}
+use Rattle.script_lines.specs.declared.verb.QueryWord.TheVariants.{Value as ValueWord, Variance as VarianceWord, Covariance as CovarianceWord, Correlation as CorrelationWord, Sensitivity as SensitivityWord, Degrees as DegreesWord, Report as ReportWord, Expanded as ExpandedWord, Decide as DecideWord, Budget as BudgetWord, Dump as DumpWord}
 use Rattle.script_lines.specs.declared.item.Item.{Item}
 use Rattle.script_lines.specs.declared.item.Item.TheVariants.{Line, Block, LongLine, LongTable, UnclosedTable}
 use Rattle.script_lines.specs.declared.verb.Verb.{Verb}
 use Rattle.script_lines.specs.declared.verb.Verb.TheVariants.{Set as SetVerb, Remove as RemoveVerb, Undo as UndoVerb, Redo as RedoVerb, Mark as MarkVerb, Restore as RestoreVerb, At as AtVerb, Ask as AskVerb, Row as RowVerb}
 use Rattle.script_lines.specs.Parts.{Read, mapped, then_read, alone, no_more, any_word, name_word, plain_word, sole_name}
-use Rattle.script_lines.specs.Queries.{query_word, one_name, two_names, level_of, level_checked, name_and_level, query_with, query_begun, query_of, query_at}
+use Rattle.script_lines.specs.Queries.{query_word, one_name, two_names, level_of, level_checked, sole_level, name_and_level, decision_asked, query_with, query_begun, query_of, query_at}
 use Rattle.script_lines.specs.Commands.{verb_of, row_of_line, adding, setting, command_with, line_with, line_read, block_with, block_read, command_read}
 
 abbrev IsNoMemory : LineFault → Type 0
@@ -34,7 +34,6 @@ IsNoMemory LevelRefused = Unit {0}
 IsNoMemory LineTooLong = Unit {0}
 IsNoMemory TableTooLong = Unit {0}
 IsNoMemory TableUnclosed = Unit {0}
-IsNoMemory NotBuilt = Unit {0}
 
 abbrev IfFailed : {A : Type 0} → Read A → Type 0
 IfFailed (Ok x) = Unit {0}
@@ -85,12 +84,21 @@ checked_failed : (said : Option Level) → IfFailed (level_checked said)
 checked_failed None = tt
 checked_failed (Some level) = tt
 
-level_failed : (end : ℕ) (ws : List Word) → IfFailed (name_and_level end ws)
+level_failed : (end : ℕ) (ws : List Word) → IfFailed (sole_level end ws)
 level_failed end ws =
+    then_failed (any_word level_of end ws) _ (any_failed level_of end ws) (λ said.
+    then_failed (no_more said.rest) _ (alone_failed tt said.rest) (λ done. checked_failed said.item))
+
+name_and_level_failed : (end : ℕ) (ws : List Word) → IfFailed (name_and_level end ws)
+name_and_level_failed end ws =
     then_failed (name_word end ws) _ (word_failed end ws) (λ name.
-    then_failed (any_word level_of end name.rest) _ (any_failed level_of end name.rest) (λ said.
-    then_failed (no_more said.rest) _ (alone_failed tt said.rest) (λ done.
-    mapped_failed (λ level. (name.item, level)) (level_checked said.item) (checked_failed said.item))))
+    mapped_failed (λ level. (name.item, level)) (sole_level end name.rest) (level_failed end name.rest))
+
+decision_failed : (end : ℕ) (ws : List Word) → IfFailed (decision_asked end ws)
+decision_failed end ws =
+    then_failed (name_word end ws) _ (word_failed end ws) (λ name.
+    then_failed (plain_word end name.rest) _ (plain_failed end name.rest) (λ rule.
+    mapped_failed (λ level. Decide name.item rule.item level) (sole_level end rule.rest) (level_failed end rule.rest)))
 
 query_failed : (asked : QueryWord) (end : ℕ) (ws : List Word) → IfFailed (query_with asked end ws)
 query_failed ValueWord end ws = mapped_failed Value (one_name end ws) (one_failed end ws)
@@ -100,9 +108,10 @@ query_failed CorrelationWord end ws = mapped_failed (λ names. Correlation names
 query_failed SensitivityWord end ws = mapped_failed (λ names. Sensitivity names.0 names.1) (two_names end ws) (two_failed end ws)
 query_failed DegreesWord end ws = mapped_failed Degrees (one_name end ws) (one_failed end ws)
 query_failed ReportWord end ws = mapped_failed Report (one_name end ws) (one_failed end ws)
-query_failed ExpandedWord end ws = mapped_failed (λ asked. Expanded asked.0 asked.1) (name_and_level end ws) (level_failed end ws)
+query_failed ExpandedWord end ws = mapped_failed (λ asked. Expanded asked.0 asked.1) (name_and_level end ws) (name_and_level_failed end ws)
+query_failed DecideWord end ws = decision_failed end ws
+query_failed BudgetWord end ws = mapped_failed Budget (one_name end ws) (one_failed end ws)
 query_failed DumpWord end ws = alone_failed Dump ws
-query_failed LaterWord end ws = tt
 
 begun_failed : (asked : Option QueryWord) (end : ℕ) (w : Word) (ws : List Word) → IfFailed (query_begun asked end w ws)
 begun_failed None end w ws = tt

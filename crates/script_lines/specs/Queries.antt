@@ -1,13 +1,13 @@
 -- What the words of a query are.
-use Rattle.std.specs.Prelude.{ℕ, ◌+◌, ◌||◌, if◌then◌else◌, List, [], ◌∷◌, Option, Some, None, Ok, Err, bytes_eq, codes}
+use Rattle.std.specs.Prelude.{ℕ, ◌+◌, if◌then◌else◌, List, [], ◌∷◌, Option, Some, None, Ok, Err, bytes_eq, codes}
 use Rattle.line_text.specs.Words.{Word}
 use Rattle.table_g2.specs.declared.known.Level.{Level}
 use Rattle.table_g2.specs.declared.known.Level.TheVariants.{L95, L9545, L99}
 use Rattle.answers.specs.declared.command.Query.{Query}
-use Rattle.answers.specs.declared.command.Query.TheVariants.{Value, Variance, Covariance, Correlation, Sensitivity, Degrees, Report, Expanded, Dump}
-use Rattle.answers.specs.declared.fault.LineFault.TheVariants.{Syntax, Level as LevelRefused, NotBuilt}
+use Rattle.answers.specs.declared.command.Query.TheVariants.{Value, Variance, Covariance, Correlation, Sensitivity, Degrees, Report, Expanded, Decide, Budget, Dump}
+use Rattle.answers.specs.declared.fault.LineFault.TheVariants.{Syntax, Level as LevelRefused}
 use Rattle.script_lines.specs.declared.verb.QueryWord.{QueryWord}
-use Rattle.script_lines.specs.declared.verb.QueryWord.TheVariants.{Value as ValueWord, Variance as VarianceWord, Covariance as CovarianceWord, Correlation as CorrelationWord, Sensitivity as SensitivityWord, Degrees as DegreesWord, Report as ReportWord, Expanded as ExpandedWord, Dump as DumpWord, Later as LaterWord}
+use Rattle.script_lines.specs.declared.verb.QueryWord.TheVariants.{Value as ValueWord, Variance as VarianceWord, Covariance as CovarianceWord, Correlation as CorrelationWord, Sensitivity as SensitivityWord, Degrees as DegreesWord, Report as ReportWord, Expanded as ExpandedWord, Decide as DecideWord, Budget as BudgetWord, Dump as DumpWord}
 use Rattle.script_lines.specs.Parts.{Read, mapped, then_read, alone, no_more, any_word, name_word, plain_word}
 
 -- what the word asks for, where it begins a query
@@ -21,8 +21,9 @@ query_word text =
     if bytes_eq text (codes "dof") then Some DegreesWord else
     if bytes_eq text (codes "report") then Some ReportWord else
     if bytes_eq text (codes "expanded") then Some ExpandedWord else
-    if bytes_eq text (codes "dump") then Some DumpWord else
-    if bytes_eq text (codes "decide") || bytes_eq text (codes "budget") then Some LaterWord else None
+    if bytes_eq text (codes "decide") then Some DecideWord else
+    if bytes_eq text (codes "budget") then Some BudgetWord else
+    if bytes_eq text (codes "dump") then Some DumpWord else None
 
 -- ---- the words after the one that begins the query
 -- the name of a quantity
@@ -46,14 +47,23 @@ abbrev pub level_checked : Option Level → Read Level
 level_checked None = Err LevelRefused
 level_checked (Some level) = Ok level
 
--- the name of a quantity, and a level, for which any word may stand: only when all words are read is it looked at
--- whether it says one
+-- a level, for which any word may stand: only when all words are read is it looked at whether it says one
+abbrev pub sole_level : ℕ → List Word → Read Level
+sole_level end ws =
+    then_read (any_word level_of end ws) (λ said.
+    then_read (no_more said.rest) (λ done. level_checked said.item))
+
+-- the name of a quantity, and a level
 abbrev pub name_and_level : ℕ → List Word → Read (List ℕ × Level)
 name_and_level end ws =
+    then_read (name_word end ws) (λ name. mapped (λ level. (name.item, level)) (sole_level end name.rest))
+
+-- a question for a statement of conformity: the name of a quantity, that of a rule, which has no point, and a level
+abbrev pub decision_asked : ℕ → List Word → Read Query
+decision_asked end ws =
     then_read (name_word end ws) (λ name.
-    then_read (any_word level_of end name.rest) (λ said.
-    then_read (no_more said.rest) (λ done.
-    mapped (λ level. (name.item, level)) (level_checked said.item))))
+    then_read (plain_word end name.rest) (λ rule.
+    mapped (λ level. Decide name.item rule.item level) (sole_level end rule.rest)))
 
 -- the query
 abbrev pub query_with : QueryWord → ℕ → List Word → Read Query
@@ -65,8 +75,9 @@ query_with SensitivityWord end ws = mapped (λ names. Sensitivity names.0 names.
 query_with DegreesWord end ws = mapped Degrees (one_name end ws)
 query_with ReportWord end ws = mapped Report (one_name end ws)
 query_with ExpandedWord end ws = mapped (λ asked. Expanded asked.0 asked.1) (name_and_level end ws)
+query_with DecideWord end ws = decision_asked end ws
+query_with BudgetWord end ws = mapped Budget (one_name end ws)
 query_with DumpWord end ws = alone Dump ws
-query_with LaterWord end ws = Err NotBuilt
 
 -- ---- a query to a sheet that is kept
 abbrev pub query_begun : Option QueryWord → ℕ → Word → List Word → Read Query

@@ -12,14 +12,19 @@ use Rattle.round_out.specs.declared.outcome.Reported.{Reported}
 use Rattle.round_out.specs.declared.outcome.Reported.TheVariants.{Exact, Rounded, Unsettled as UnsettledReport}
 use Rattle.table_g2.specs.declared.settled.DofSaid.{DofSaid}
 use Rattle.table_g2.specs.declared.settled.DofSaid.TheVariants.{None as NoDegrees, Infinite, Big, Whole, Unsettled as UnsettledDegrees}
+use Rattle.guard_band.specs.Statements.{number_of}
+use Rattle.guard_band.specs.declared.rule.Said.{Said as SaidOfRule}
+use Rattle.guard_band.specs.declared.rule.Said.TheVariants.{Pass, ConditionalPass, ConditionalFail, Fail, Undecided}
+use Rattle.budget_table.specs.declared.line.BudgetLine.{BudgetLine}
+use Rattle.budget_table.specs.declared.line.BudgetLine.TheVariants.{Input, Group}
 use Rattle.sheet_rows.specs.Rows.{Row}
 use Rattle.row_text.specs.Printing.{printed}
 use Rattle.sheet_rows.specs.declared.fault.RowFault.{RowFault}
-use Rattle.sheet_rows.specs.declared.fault.RowFault.TheVariants.{Syntax, NotNumber, NumberRange, UnknownFunction, BadPower, TooDeep, TooManyNodes, Negative, ZeroK, Beta, Level, DofRange, RRange, TooFew, TooMany, Shape, Wide, NotBuilt, OutOfMemory}
+use Rattle.sheet_rows.specs.declared.fault.RowFault.TheVariants.{Syntax, NotNumber, NumberRange, UnknownFunction, BadPower, TooDeep, TooManyNodes, Negative, ZeroK, Beta, Level, DofRange, RRange, GuardRange, LimitOrder, TooFew, TooMany, Shape, Wide, OutOfMemory}
 use Rattle.sheet_rows.specs.declared.edit_fault.EditFault.{EditFault}
 use Rattle.sheet_rows.specs.declared.edit_fault.EditFault.TheVariants.{RowsFull, Duplicate, Unknown, NotEarlier, NotCorrelatable, AlreadyCorrelated, InUse, OutOfMemory as EditMemory}
 use Rattle.answers.specs.declared.fault.LineFault.{LineFault}
-use Rattle.answers.specs.declared.fault.LineFault.TheVariants.{Syntax as LineSyntax, Row as RowRefused, Level as LineLevel, LongLine, LongTable, UnclosedTable, NotBuilt as LineNotBuilt, OutOfMemory as LineMemory}
+use Rattle.answers.specs.declared.fault.LineFault.TheVariants.{Syntax as LineSyntax, Row as RowRefused, Level as LineLevel, LongLine, LongTable, UnclosedTable, OutOfMemory as LineMemory}
 use Rattle.answers.specs.declared.fault.HistoryFault.{HistoryFault}
 use Rattle.answers.specs.declared.fault.HistoryFault.TheVariants.{NothingToUndo, NothingToRedo, OutOfMemory as HistoryMemory}
 use Rattle.answers.specs.declared.fault.MarkFault.{MarkFault}
@@ -27,7 +32,7 @@ use Rattle.answers.specs.declared.fault.MarkFault.TheVariants.{MarksFull, NoMark
 use Rattle.answers.specs.declared.fault.AskFault.{AskFault}
 use Rattle.answers.specs.declared.fault.AskFault.TheVariants.{NoMark as AskNoMark, NoSuchResult, OutOfMemory as AskMemory}
 use Rattle.answers.specs.declared.reply.Answer.{Answer}
-use Rattle.answers.specs.declared.reply.Answer.TheVariants.{Value, Variance, Covariance, Correlation, Sensitivity, Degrees, Report, Expanded, Dump, ValueFault, LawOverflow}
+use Rattle.answers.specs.declared.reply.Answer.TheVariants.{Value, Variance, Covariance, Correlation, Sensitivity, Degrees, Report, Expanded, Decision, Budget, Dump, ValueFault, LawOverflow}
 use Rattle.answers.specs.declared.reply.Reply.{Reply}
 use Rattle.answers.specs.declared.reply.Reply.TheVariants.{Fine, Line, Edit, History, Mark, Ask, Said}
 
@@ -53,11 +58,12 @@ text_of_row_fault Beta = codes "refused beta\n"
 text_of_row_fault Level = codes "refused level\n"
 text_of_row_fault DofRange = codes "refused dof_range\n"
 text_of_row_fault RRange = codes "refused r_range\n"
+text_of_row_fault GuardRange = codes "refused guard_range\n"
+text_of_row_fault LimitOrder = codes "refused limit_order\n"
 text_of_row_fault TooFew = codes "refused too_few\n"
 text_of_row_fault TooMany = codes "refused too_many\n"
 text_of_row_fault (Shape place) = placed (codes "refused shape ") place
 text_of_row_fault (Wide place) = placed (codes "refused wide ") place
-text_of_row_fault NotBuilt = codes "refused not_built\n"
 text_of_row_fault OutOfMemory = []
 
 abbrev pub text_of_line_fault : LineFault → List ℕ
@@ -67,7 +73,6 @@ text_of_line_fault LineLevel = codes "refused level\n"
 text_of_line_fault LongLine = codes "refused long_line\n"
 text_of_line_fault LongTable = codes "refused long_table\n"
 text_of_line_fault UnclosedTable = codes "refused open_table\n"
-text_of_line_fault LineNotBuilt = codes "refused not_built\n"
 text_of_line_fault LineMemory = []
 
 abbrev pub text_of_edit_fault : EditFault → List ℕ
@@ -107,8 +112,12 @@ text_of_rows [] = []
 text_of_rows (row ∷ rows) = printed row ++ codes "\n" ++ text_of_rows rows
 
 -- the ends of an interval, each after a space
+abbrev pub text_of_ends : Interval → List ℕ
+text_of_ends span = codes " " ++ text_of span.lo ++ codes " " ++ text_of span.hi
+
+-- the same at the end of a line
 abbrev pub text_of_span : Interval → List ℕ
-text_of_span span = codes " " ++ text_of span.lo ++ codes " " ++ text_of span.hi ++ codes "\n"
+text_of_span span = text_of_ends span ++ codes "\n"
 
 -- the word of a query, and the name or the two names that were asked for
 abbrev pub asked_of : List ℕ → List ℕ → List ℕ
@@ -143,6 +152,25 @@ text_of_factor (Exact estimate) factor = codes " k " ++ text_of factor
 text_of_factor (Rounded estimate m e) factor = codes " k " ++ text_of factor
 text_of_factor UnsettledReport factor = []
 
+-- a statement of conformity; where the intervals settle none, the number of the first condition that they do not settle
+abbrev pub text_of_statement : SaidOfRule → List ℕ
+text_of_statement Pass = codes "Pass"
+text_of_statement ConditionalPass = codes "ConditionalPass"
+text_of_statement ConditionalFail = codes "ConditionalFail"
+text_of_statement Fail = codes "Fail"
+text_of_statement (Undecided first) = codes "Undecided " ++ decimal (number_of first)
+
+-- a line of a budget; in that of an input each interval stands after a word of its own
+abbrev pub text_of_budget_line : BudgetLine → List ℕ
+text_of_budget_line (Input name value variance sens own) =
+    asked_of (codes "input") name ++ codes " value" ++ text_of_ends value ++ codes " var" ++ text_of_ends variance ++ codes " sens" ++
+    text_of_ends sens ++ codes " own" ++ text_of_span own
+text_of_budget_line (Group name variance) = asked_of (codes "group") name ++ text_of_span variance
+
+abbrev pub text_of_budget_lines : List BudgetLine → List ℕ
+text_of_budget_lines [] = []
+text_of_budget_lines (line ∷ lines) = text_of_budget_line line ++ text_of_budget_lines lines
+
 abbrev pub text_of_answer : Answer → List ℕ
 text_of_answer (Value name span) = asked_of (codes "value") name ++ text_of_span span
 text_of_answer (Variance name span) = asked_of (codes "var") name ++ text_of_span span
@@ -153,6 +181,8 @@ text_of_answer (Degrees name said) = asked_of (codes "dof") name ++ codes " " ++
 text_of_answer (Report name said) = asked_of (codes "report") name ++ codes " " ++ text_of_reported (codes "u") said ++ codes "\n"
 text_of_answer (Expanded name said factor) =
     asked_of (codes "expanded") name ++ codes " " ++ text_of_reported (codes "U") said ++ text_of_factor said factor ++ codes "\n"
+text_of_answer (Decision name rule said) = asked_of_two (codes "decide") name rule ++ codes " " ++ text_of_statement said ++ codes "\n"
+text_of_answer (Budget lines name variance) = text_of_budget_lines lines ++ asked_of (codes "budget") name ++ text_of_span variance
 text_of_answer (Dump rows) = text_of_rows rows ++ codes "ok\n"
 text_of_answer (ValueFault fault row) = named (arithmetic_words fault) row
 text_of_answer LawOverflow = codes "fault law_overflow\n"

@@ -9,6 +9,7 @@ mod first;
 mod item;
 mod laws;
 mod print;
+mod print_budget;
 mod print_fault;
 mod print_result;
 mod read;
@@ -26,6 +27,7 @@ pub use print::print_reply;
 pub use read::read_command;
 pub use splitter::Splitter;
 pub use worked::{
-    worked_blocks, worked_commands, worked_items, worked_limits, worked_moments, worked_queries,
-    worked_query_refusals, worked_refusals, worked_replies, worked_reports,
+    worked_blocks, worked_budgets, worked_commands, worked_decisions, worked_items, worked_limits,
+    worked_moments, worked_queries, worked_query_refusals, worked_refusals, worked_replies,
+    worked_reports,
 };

@@ -4,11 +4,13 @@ ghost use Rattle.sheet_rows.specs.Regular.{AreRegular};
 ghost use Rattle.answers.specs.Replies.{IsRegularAnswer, IsRegularReply};
 ghost use Rattle.script_lines.specs.Texts.{arithmetic_words, text_of_rows, text_of_answer, text_of_reply, SaysOutOfMemory};
 
+use crate::print_budget::put_budget;
 use crate::print_fault::{
     put_ask_fault, put_edit_fault, put_history_fault, put_line_fault, put_mark_fault, put_named,
 };
 use crate::print_result::{
-    put_correlation, put_degrees, put_expanded, put_report, put_span_of, put_span_of_two,
+    put_correlation, put_decision, put_degrees, put_expanded, put_report, put_span_of,
+    put_span_of_two,
 };
 use answers::{Answer, Reply};
 use fixed_interval::ArithFault;
@@ -59,6 +61,10 @@ fn put_answer(alloc: Global, text: &mut Bytes, answer: &Answer) -> Result<(), Ou
         Answer::Degrees(name, said) => put_degrees(text, name, said),
         Answer::Report(name, said) => put_report(alloc, text, name, said),
         Answer::Expanded(name, said, factor) => put_expanded(alloc, text, name, said, *factor),
+        Answer::Decision(name, rule, said) => put_decision(text, name, rule, said),
+        Answer::Budget(lines, name, variance) => {
+            put_budget(alloc, text, lines.as_slice(), name, variance)
+        }
         Answer::Dump(rows) => {
             put_rows(alloc, text, rows.as_slice())?;
             text.extend_from_slice(b"ok\n")

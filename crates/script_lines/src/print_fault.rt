@@ -44,11 +44,12 @@ fn put_row_fault(text: &mut Bytes, fault: &RowFault) -> Result<(), OutOfMemory>
         RowFault::Level => text.extend_from_slice(b"refused level\n"),
         RowFault::DofRange => text.extend_from_slice(b"refused dof_range\n"),
         RowFault::RRange => text.extend_from_slice(b"refused r_range\n"),
+        RowFault::GuardRange => text.extend_from_slice(b"refused guard_range\n"),
+        RowFault::LimitOrder => text.extend_from_slice(b"refused limit_order\n"),
         RowFault::TooFew => text.extend_from_slice(b"refused too_few\n"),
         RowFault::TooMany => text.extend_from_slice(b"refused too_many\n"),
         RowFault::Shape(place) => put_placed(text, b"refused shape ", *place),
         RowFault::Wide(place) => put_placed(text, b"refused wide ", *place),
-        RowFault::NotBuilt => text.extend_from_slice(b"refused not_built\n"),
         RowFault::OutOfMemory => Ok(()),
     }
 }
@@ -64,7 +65,6 @@ pub(crate) fn put_line_fault(text: &mut Bytes, fault: &LineFault) -> Result<(), 
         LineFault::LongLine => text.extend_from_slice(b"refused long_line\n"),
         LineFault::LongTable => text.extend_from_slice(b"refused long_table\n"),
         LineFault::UnclosedTable => text.extend_from_slice(b"refused open_table\n"),
-        LineFault::NotBuilt => text.extend_from_slice(b"refused not_built\n"),
         LineFault::OutOfMemory => Ok(()),
     }
 }

@@ -3,20 +3,22 @@
 ghost use Rattle.std.specs.Prelude.{◌≡◌, ◌++◌, OnOk, codes};
 ghost use Rattle.decimal18.specs.Text.{text_of};
 ghost use Rattle.round_out.specs.Printed.{text_at};
+ghost use Rattle.guard_band.specs.Statements.{number_of};
 ghost use Rattle.answers.specs.declared.reply.Answer.{Answer};
-ghost use Rattle.script_lines.specs.Texts.{asked_of, asked_of_two, text_of_span, text_of_coefficient, text_of_degrees, text_of_reported, text_of_factor, text_of_answer};
+ghost use Rattle.script_lines.specs.Texts.{asked_of, asked_of_two, text_of_ends, text_of_span, text_of_coefficient, text_of_degrees, text_of_reported, text_of_factor, text_of_statement, text_of_answer};
 
 use decimal18::Dec;
 use fixed_interval::Span;
 use formula_ast::Name;
+use guard_band::{Condition, Said};
 use itoa::Buffer;
 use line_text::{Bytes, OutOfMemory};
 use round_out::{CorrSaid, Reported, print_at};
 use std::alloc::Global;
 use table_g2::DofSaid;
 
-/// Puts the word of a query and the name that was asked for at the end.
-fn put_asked(text: &mut Bytes, word: &[u8], name: &Name) -> Result<(), OutOfMemory>
+/// Puts the word of a query, or of a line of its answer, and the name that stands after it at the end.
+pub(crate) fn put_asked(text: &mut Bytes, word: &[u8], name: &Name) -> Result<(), OutOfMemory>
     ensures { OnOk result (text.new ≡ text.old ++ asked_of word.now name.now) }
 {
     text.extend_from_slice(word)?;
@@ -52,14 +54,21 @@ fn put_at(alloc: Global, text: &mut Bytes, c: i128, e: i8) -> Result<(), OutOfMe
     text.extend_from_slice(print_at(alloc, c, e)?.as_slice())
 }
 
-/// Puts the ends of an interval at the end, and ends the line.
-fn put_span(alloc: Global, text: &mut Bytes, span: &Span) -> Result<(), OutOfMemory>
-    ensures { OnOk result (text.new ≡ text.old ++ text_of_span span.now) }
+/// Puts the ends of an interval at the end.
+pub(crate) fn put_ends(alloc: Global, text: &mut Bytes, span: &Span) -> Result<(), OutOfMemory>
+    ensures { OnOk result (text.new ≡ text.old ++ text_of_ends span.now) }
 {
     text.extend_from_slice(b" ")?;
     put_number(alloc, text, span.lo())?;
     text.extend_from_slice(b" ")?;
-    put_number(alloc, text, span.hi())?;
+    put_number(alloc, text, span.hi())
+}
+
+/// Puts the ends of an interval at the end, and ends the line.
+pub(crate) fn put_span(alloc: Global, text: &mut Bytes, span: &Span) -> Result<(), OutOfMemory>
+    ensures { OnOk result (text.new ≡ text.old ++ text_of_span span.now) }
+{
+    put_ends(alloc, text, span)?;
     text.extend_from_slice(b"\n")
 }
 
@@ -216,5 +225,47 @@ pub(crate) fn put_expanded(
     text.extend_from_slice(b" ")?;
     put_reported(alloc, text, b"U", said)?;
     put_factor(alloc, text, said, factor)?;
+    text.extend_from_slice(b"\n")
+}
+
+/// The number by which a statement names a condition of its rule.
+fn number_of(condition: &Condition) -> u64
+    ensures { result ≡ number_of condition.now }
+{
+    match condition {
+        Condition::Guarded => 1,
+        Condition::Inside => 2,
+        Condition::Near => 3,
+    }
+}
+
+/// Puts what is said of conformity at the end.
+fn put_statement(text: &mut Bytes, said: &Said) -> Result<(), OutOfMemory>
+    ensures { OnOk result (text.new ≡ text.old ++ text_of_statement said.now) }
+{
+    match said {
+        Said::Pass => text.extend_from_slice(b"Pass"),
+        Said::ConditionalPass => text.extend_from_slice(b"ConditionalPass"),
+        Said::ConditionalFail => text.extend_from_slice(b"ConditionalFail"),
+        Said::Fail => text.extend_from_slice(b"Fail"),
+        Said::Undecided { first } => {
+            text.extend_from_slice(b"Undecided ")?;
+            text.extend_from_slice(Buffer::new().format(number_of(first)).as_bytes())
+        }
+    }
+}
+
+/// Puts the statement of a rule on a quantity at the end.
+pub(crate) fn put_decision(
+    text: &mut Bytes,
+    name: &Name,
+    rule: &Name,
+    said: &Said,
+) -> Result<(), OutOfMemory>
+    ensures { OnOk result (text.new ≡ text.old ++ text_of_answer (Answer.Decision name.now rule.now said.now)) }
+{
+    put_asked_two(text, b"decide", name, rule)?;
+    text.extend_from_slice(b" ")?;
+    put_statement(text, said)?;
     text.extend_from_slice(b"\n")
 }

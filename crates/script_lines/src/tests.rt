@@ -1,19 +1,25 @@
 //! Texts in pieces, lines that are refused, and printed replies.
 
+ghost use Rattle.std.specs.Prelude.{◌≡◌};
 ghost use Rattle.answers.specs.Replies.{IsRegularReply};
 ghost use Rattle.script_lines.specs.Texts.{SaysOutOfMemory};
 
 use crate::{Item, Splitter, print_reply, read_command};
 use answers::{Answer, AskFault, Command, Edit, HistoryFault, LineFault, MarkFault, Query, Reply};
+use budget_table::{BudgetLine, BudgetLines};
 use decimal18::Dec;
-use fixed_interval::ArithFault;
+use fixed_interval::{ArithFault, Steps, point};
 use formula_ast::Name;
+use guard_band::{Condition, Said};
 use line_text::Bytes;
 use round_out::{CorrSaid, Reported};
 use row_text::read_row;
 use sheet_rows::{EditFault, RowFault, RowList};
 use std::alloc::Global;
+use std::marker::Brand;
+use std::process::Abort;
 use std::rc::Rc;
+use std::sync::ledger::{Blank, Ledger};
 use std::test::Fail;
 use table_g2::{DofSaid, Level};
 
@@ -102,7 +108,7 @@ fn lines_of_the_most_bytes_and_one_more(rt: HostRuntime) -> Result<(), Fail> {
 }
 
 /// Lines that are no commands, and why. Places are counted from 1.
-const REFUSED: [(&str, LineFault); 32] = [
+const REFUSED: [(&str, LineFault); 36] = [
     ("undo\r", LineFault::Row(RowFault::Syntax(1))),
     ("dump x", LineFault::Syntax(6)),
     ("undo 1", LineFault::Syntax(6)),
@@ -115,8 +121,15 @@ const REFUSED: [(&str, LineFault); 32] = [
     ("at T.V dump", LineFault::Syntax(4)),
     ("at M value", LineFault::Syntax(11)),
     ("at M undo", LineFault::Syntax(6)),
-    ("budget X", LineFault::NotBuilt),
-    ("at M decide Y G 95", LineFault::NotBuilt),
+    ("budget X Y", LineFault::Syntax(10)),
+    ("decide Y T.V 95", LineFault::Syntax(10)),
+    ("at M decide Y G", LineFault::Syntax(16)),
+    ("decide Y G 90", LineFault::Level),
+    ("tol G guard 1", LineFault::Row(RowFault::Syntax(7))),
+    (
+        "tol G upper 1 guard 4",
+        LineFault::Row(RowFault::GuardRange),
+    ),
     ("var", LineFault::Syntax(4)),
     ("at M var 5", LineFault::Syntax(10)),
     ("cov Y", LineFault::Syntax(6)),
@@ -138,9 +151,10 @@ const REFUSED: [(&str, LineFault); 32] = [
 ];
 
 /// Lines that are commands, what each does, and the name of its row, quantity or mark.
-const READ: [(&str, &str, &str); 19] = [
+const READ: [(&str, &str, &str); 22] = [
     ("given X 5 std 1 # a note", "add", "X"),
     ("set let Y=5", "set", "Y"),
+    ("set tol G upper 1 guard 1", "set", "G"),
     ("remove X", "remove", "X"),
     ("undo#1", "undo", ""),
     (" redo ", "redo", ""),
@@ -156,11 +170,13 @@ const READ: [(&str, &str, &str); 19] = [
     ("expanded Y 95", "expanded at 95", "Y"),
     ("expanded Y 95.45", "expanded at 95.45", "Y"),
     ("expanded Y 99", "expanded at 99", "Y"),
+    ("decide Y G 95.45", "decide at 95.45", "G"),
+    ("budget T.V", "budget", "T.V"),
     ("dump", "dump", ""),
     ("at M value X", "at", "M"),
 ];
 
-// What a query asks for, and the name of its quantity.
+// What a query asks for, and the name of its quantity or rule.
 fn asked_of(query: &Query) -> (&'static str, Option<Name>) {
     match query {
         Query::Value(name) => ("value", Some(*name)),
@@ -173,6 +189,9 @@ fn asked_of(query: &Query) -> (&'static str, Option<Name>) {
         Query::Expanded(name, Level::L95) => ("expanded at 95", Some(*name)),
         Query::Expanded(name, Level::L9545) => ("expanded at 95.45", Some(*name)),
         Query::Expanded(name, Level::L99) => ("expanded at 99", Some(*name)),
+        Query::Decide(_, rule, Level::L9545) => ("decide at 95.45", Some(*rule)),
+        Query::Decide(_, rule, _) => ("decide", Some(*rule)),
+        Query::Budget(name) => ("budget", Some(*name)),
         Query::Dump => ("dump", None),
     }
 }
@@ -329,7 +348,8 @@ fn answers_are_printed(rt: HostRuntime) -> Result<(), Fail> {
     Ok(())
 }
 
-// What is said of a correlation coefficient, of degrees and of a report, each in the form that it has in a reply.
+// What is said of a correlation coefficient, of degrees, of a report and of conformity, each in the form that it has in a
+// reply.
 #[test]
 fn results_are_printed(rt: HostRuntime) -> Result<(), Fail> {
     let alloc = rt.alloc();
@@ -359,5 +379,41 @@ fn results_are_printed(rt: HostRuntime) -> Result<(), Fail> {
     assert!(rt; prints(alloc, Reply::Said(said), "expanded T.V 3 U 0 k 2\n")?);
     let said = Answer::Expanded(name, Reported::Unsettled, Dec::whole(2));
     assert!(rt; prints(alloc, Reply::Said(said), "expanded T.V undecided\n")?);
+    let said = Answer::Decision(name, other, Said::ConditionalFail);
+    assert!(rt; prints(alloc, Reply::Said(said), "decide T.V Y ConditionalFail\n")?);
+    let first = Condition::Near;
+    let said = Answer::Decision(name, other, Said::Undecided { first });
+    assert!(rt; prints(alloc, Reply::Said(said), "decide T.V Y Undecided 3\n")?);
     Ok(())
+}
+
+// The budget of one input.
+fn print_budget_of_one<L: Ledger>(rt: &impl Abort, alloc: Global, blank: Blank) -> Result<(), Fail>
+    requires name { blank.name ≡ L.name }
+    requires parts { blank.parts ≡ L.parts }
+    requires one { L.parts ≡ 1 }
+{
+    let mut steps: Steps<L> = Steps::new(blank);
+    let name = Name::new(b"T.V").ok_or("a name")?;
+    let variance = point(Dec::whole(36), &mut steps);
+    let mut lines = BudgetLines::new(alloc)?;
+    lines.push(BudgetLine::Input {
+        name,
+        value: point(Dec::whole(5), &mut steps),
+        variance: point(Dec::whole(4), &mut steps),
+        sens: point(Dec::whole(-3), &mut steps),
+        own: variance,
+    })?;
+    lines.push(BudgetLine::Group { name, variance })?;
+    let name = Name::new(b"Y").ok_or("a name")?;
+    let said = Reply::Said(Answer::Budget(lines, name, variance));
+    let text =
+        "input T.V value 5 5 var 4 4 sens -3 -3 own 36 36\ngroup T.V 36 36\nbudget Y 36 36\n";
+    assert!(rt; prints(alloc, said, text)?);
+    Ok(())
+}
+
+#[test]
+fn budgets_are_printed(rt: HostRuntime) -> Result<(), Fail> {
+    print_budget_of_one::<Brand>(&rt, rt.alloc(), Blank::new(1))
 }

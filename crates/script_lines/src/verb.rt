@@ -15,9 +15,9 @@ pub(crate) enum QueryWord {
     Degrees,
     Report,
     Expanded,
+    Decide,
+    Budget,
     Dump,
-    /// Something that the language is to have, and that is not there yet.
-    Later,
 }
 
 const VALUE: &[u8] = b"value";
@@ -36,12 +36,11 @@ const REPORT: &[u8] = b"report";
 
 const EXPANDED: &[u8] = b"expanded";
 
-const DUMP: &[u8] = b"dump";
-
-// What begins a query that is not there yet.
 const DECIDE: &[u8] = b"decide";
 
 const BUDGET: &[u8] = b"budget";
+
+const DUMP: &[u8] = b"dump";
 
 /// What the word asks for, where it begins a query.
 pub(crate) fn query_word(word: &[u8]) -> Option<QueryWord>
@@ -71,11 +70,14 @@ pub(crate) fn query_word(word: &[u8]) -> Option<QueryWord>
     if word == EXPANDED {
         return Some(QueryWord::Expanded);
     }
+    if word == DECIDE {
+        return Some(QueryWord::Decide);
+    }
+    if word == BUDGET {
+        return Some(QueryWord::Budget);
+    }
     if word == DUMP {
         return Some(QueryWord::Dump);
-    }
-    if word == DECIDE || word == BUDGET {
-        return Some(QueryWord::Later);
     }
     None
 }

@@ -4,7 +4,7 @@
 ghost use Rattle.std.specs.Prelude.{◌≡◌, length, Ok, Err, IfOk, IfErr};
 ghost use Rattle.line_text.specs.Words.{words_left};
 ghost use Rattle.script_lines.specs.Parts.{alone, any_word, name_word, plain_word, sole_name};
-ghost use Rattle.script_lines.specs.Queries.{one_name, two_names, level_of, name_and_level, query_with, query_of, query_at};
+ghost use Rattle.script_lines.specs.Queries.{one_name, two_names, level_of, sole_level, name_and_level, decision_asked, query_with, query_of, query_at};
 
 use crate::verb::{QueryWord, query_word};
 use answers::{LineFault, Query};
@@ -104,17 +104,35 @@ fn next_level(words: &mut Words<'_>) -> Result<Option<Level>, LineFault>
     }
 }
 
-/// The name of a quantity and a level, and no word more. A word that says no level is refused last.
+/// A level, and no word more. A word that says no level is refused last.
+fn read_level(mut words: Words<'_>) -> Result<Level, LineFault>
+    ensures { result ≡ sole_level (length words.entry.line) (words_left words.entry) }
+{
+    let said = next_level(&mut words)?;
+    alone((), words)?;
+    match said {
+        Some(level) => Ok(level),
+        None => Err(LineFault::Level),
+    }
+}
+
+/// The name of a quantity and a level, and no word more.
 fn read_name_and_level(mut words: Words<'_>) -> Result<(Name, Level), LineFault>
     ensures { result ≡ name_and_level (length words.entry.line) (words_left words.entry) }
 {
     let name = next_name(&mut words)?;
-    let said = next_level(&mut words)?;
-    alone((), words)?;
-    match said {
-        Some(level) => Ok((name, level)),
-        None => Err(LineFault::Level),
-    }
+    let level = read_level(words)?;
+    Ok((name, level))
+}
+
+/// The question for a statement of conformity: the name of a quantity, that of a rule and a level, and no word more.
+fn read_decision_asked(mut words: Words<'_>) -> Result<Query, LineFault>
+    ensures { result ≡ decision_asked (length words.entry.line) (words_left words.entry) }
+{
+    let name = next_name(&mut words)?;
+    let rule = next_plain(&mut words)?;
+    let level = read_level(words)?;
+    Ok(Query::Decide(name, rule, level))
 }
 
 /// The query for this, of the words after the one that begins it.
@@ -142,8 +160,9 @@ pub(crate) fn read_query_with(asked: QueryWord, words: Words<'_>) -> Result<Quer
             let (name, level) = read_name_and_level(words)?;
             Ok(Query::Expanded(name, level))
         }
+        QueryWord::Decide => read_decision_asked(words),
+        QueryWord::Budget => Ok(Query::Budget(read_one_name(words)?)),
         QueryWord::Dump => alone(Query::Dump, words),
-        QueryWord::Later => Err(LineFault::NotBuilt),
     }
 }
 

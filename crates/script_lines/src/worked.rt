@@ -2,7 +2,7 @@
 //! definitions.
 
 ghost use Rattle.std.specs.Prelude.{◌≡◌, ℕ, List, [], ◌∷◌, true, false, length, pos, negsuc, Some, None, Ok, Err, codes};
-ghost use Rattle.sheet_rows.specs.Rows.{Given, Readings, Joint, Correlation, Formula};
+ghost use Rattle.sheet_rows.specs.Rows.{Given, Readings, Joint, Correlation, Tolerance, Formula};
 ghost use Rattle.type_a.specs.Tables.{single};
 ghost use Rattle.formula_ast.specs.Trees.{Number};
 ghost use Rattle.type_b.specs.declared.shape.Shape.TheVariants.{Exact};
@@ -12,10 +12,15 @@ ghost use Rattle.round_out.specs.declared.coefficient.CorrSaid.{CorrSaid};
 ghost use Rattle.round_out.specs.declared.outcome.Reported.{Reported};
 ghost use Rattle.table_g2.specs.declared.known.Level.TheVariants.{L95, L9545, L99};
 ghost use Rattle.table_g2.specs.declared.settled.DofSaid.{DofSaid};
+ghost use Rattle.guard_band.specs.declared.rule.Form.TheVariants.{Four};
+ghost use Rattle.guard_band.specs.declared.rule.Condition.TheVariants.{Guarded, Inside, Near};
+ghost use Rattle.guard_band.specs.declared.rule.Said.{Said};
+ghost use Rattle.budget_table.specs.declared.line.BudgetLine.TheVariants.{Input, Group};
+ghost use Rattle.budget_table.specs.WorkedBudgets.{whole, from_to};
 ghost use Rattle.sheet_rows.specs.declared.fault.RowFault.{RowFault};
 ghost use Rattle.sheet_rows.specs.declared.edit_fault.EditFault.{EditFault};
 ghost use Rattle.answers.specs.Commands.{Change, Add, Set, Remove, Undo, Redo, Mark, Restore, Ask, AskAt};
-ghost use Rattle.answers.specs.declared.command.Query.TheVariants.{Value, Variance, Covariance, Correlation, Sensitivity, Degrees, Report, Expanded, Dump};
+ghost use Rattle.answers.specs.declared.command.Query.TheVariants.{Value, Variance, Covariance, Correlation, Sensitivity, Degrees, Report, Expanded, Decide, Budget, Dump};
 ghost use Rattle.answers.specs.declared.fault.LineFault.{LineFault};
 ghost use Rattle.answers.specs.declared.fault.HistoryFault.{HistoryFault};
 ghost use Rattle.answers.specs.declared.fault.MarkFault.{MarkFault};
@@ -83,6 +88,8 @@ pub fn worked_commands()
         ≡ Ok (Some (Change (Set (Joint (codes "T") (codes "V" ∷ []) (single (scaled (pos 1) 0 ∷ scaled (pos 2) 0 ∷ [])))))) }
     ensures correlation { command_read (Line (codes "corr P A T.V -0.5"))
         ≡ Ok (Some (Change (Add (Correlation (codes "P") (codes "A") (codes "T.V") (scaled (negsuc 4) 1))))) }
+    ensures tolerance { command_read (Line (codes "tol G upper 255 guard 1.5 four")) ≡ Ok (Some (Change (Add (Tolerance (codes "G")
+        (record { lower = None; upper = Some (scaled (pos 255) 0); guard = scaled (pos 15) 1; form = Four }))))) }
     ensures blank { command_read (Line (codes " \t # undo")) ≡ Ok None }
     ensures undo { command_read (Line (codes " undo # back")) ≡ Ok (Some Undo) }
     ensures redo { command_read (Line (codes "redo")) ≡ Ok (Some Redo) }
@@ -104,11 +111,15 @@ pub fn worked_queries()
     ensures expanded { command_read (Line (codes "expanded Y 95")) ≡ Ok (Some (Ask (Expanded (codes "Y") L95))) }
     ensures expanded_9545 { command_read (Line (codes "expanded T.V 95.45 ")) ≡ Ok (Some (Ask (Expanded (codes "T.V") L9545))) }
     ensures expanded_99 { command_read (Line (codes "expanded Y 99#")) ≡ Ok (Some (Ask (Expanded (codes "Y") L99))) }
+    ensures decision { command_read (Line (codes "decide T.V G 95.45")) ≡ Ok (Some (Ask (Decide (codes "T.V") (codes "G") L9545))) }
+    ensures budget { command_read (Line (codes "budget T.V # 5.1.3")) ≡ Ok (Some (Ask (Budget (codes "T.V")))) }
     ensures dump { command_read (Line (codes "dump")) ≡ Ok (Some (Ask Dump)) }
     ensures at_value { command_read (Line (codes "at M value T.V")) ≡ Ok (Some (AskAt (codes "M") (Value (codes "T.V")))) }
     ensures at_sensitivity { command_read (Line (codes "at M sens T.V T.I")) ≡ Ok (Some (AskAt (codes "M") (Sensitivity (codes "T.V") (codes "T.I")))) }
     ensures at_correlation { command_read (Line (codes "at M r Y Z")) ≡ Ok (Some (AskAt (codes "M") (Correlation (codes "Y") (codes "Z")))) }
     ensures at_expanded { command_read (Line (codes "at M expanded Y 99")) ≡ Ok (Some (AskAt (codes "M") (Expanded (codes "Y") L99))) }
+    ensures at_decision { command_read (Line (codes "at M decide Y G 99")) ≡ Ok (Some (AskAt (codes "M") (Decide (codes "Y") (codes "G") L99))) }
+    ensures at_budget { command_read (Line (codes "at M budget Y")) ≡ Ok (Some (AskAt (codes "M") (Budget (codes "Y")))) }
     ensures at_dump { command_read (Line (codes "at M dump#")) ≡ Ok (Some (AskAt (codes "M") Dump)) }
 {}
 
@@ -131,7 +142,9 @@ pub fn worked_refusals()
     ensures no_row { command_read (Line (codes "set")) ≡ Err (LineFault.Row (RowFault.Syntax 4)) }
     ensures other_word { command_read (Line (codes "set undo")) ≡ Err (LineFault.Row (RowFault.Syntax 5)) }
     ensures column { command_read (Line (codes "remove T.V")) ≡ Err (LineFault.Syntax 8) }
-    ensures other_row { command_read (Line (codes "tol G upper 1 guard 1")) ≡ Err (LineFault.Row RowFault.NotBuilt) }
+    ensures no_limit { command_read (Line (codes "tol G guard 1")) ≡ Err (LineFault.Row (RowFault.Syntax 7)) }
+    ensures guard { command_read (Line (codes "set tol G lower 1 upper 0 guard 3.5")) ≡ Err (LineFault.Row RowFault.GuardRange) }
+    ensures limits { command_read (Line (codes "set tol G lower 1 upper 0 guard 3")) ≡ Err (LineFault.Row RowFault.LimitOrder) }
     ensures no_second { command_read (Line (codes "corr A B 1")) ≡ Err (LineFault.Row (RowFault.Syntax 10)) }
     ensures unknown { command_read (Line (codes "  foo")) ≡ Err (LineFault.Row (RowFault.Syntax 3)) }
 {}
@@ -160,8 +173,13 @@ pub fn worked_query_refusals()
     ensures same_number { command_read (Line (codes "expanded Y 95.0")) ≡ Err LineFault.Level }
     ensures level_word { command_read (Line (codes "at M expanded Y L")) ≡ Err LineFault.Level }
     ensures after_other_level { command_read (Line (codes "expanded Y 90 %")) ≡ Err (LineFault.Syntax 15) }
-    ensures decision { command_read (Line (codes "at M decide Y G 95")) ≡ Err LineFault.NotBuilt }
-    ensures budget { command_read (Line (codes "budget X")) ≡ Err LineFault.NotBuilt }
+    ensures no_rule { command_read (Line (codes "decide Y")) ≡ Err (LineFault.Syntax 9) }
+    ensures rule_column { command_read (Line (codes "decide Y T.V 95")) ≡ Err (LineFault.Syntax 10) }
+    ensures no_decision_level { command_read (Line (codes "at M decide Y G")) ≡ Err (LineFault.Syntax 16) }
+    ensures decision_level { command_read (Line (codes "decide Y G 90")) ≡ Err LineFault.Level }
+    ensures after_decision { command_read (Line (codes "decide Y G 90 %")) ≡ Err (LineFault.Syntax 15) }
+    ensures no_budget { command_read (Line (codes "budget")) ≡ Err (LineFault.Syntax 7) }
+    ensures two_budgets { command_read (Line (codes "budget Y Z")) ≡ Err (LineFault.Syntax 10) }
 {}
 
 /// Replies and their texts.
@@ -176,6 +194,8 @@ pub fn worked_replies()
     ensures query_level { text_of_reply (Reply.Line LineFault.Level) ≡ codes "refused level\n" }
     ensures long { text_of_reply (Reply.Line LineFault.LongLine) ≡ codes "refused long_line\n" }
     ensures coefficient { text_of_reply (Reply.Line (LineFault.Row RowFault.RRange)) ≡ codes "refused r_range\n" }
+    ensures guard { text_of_reply (Reply.Line (LineFault.Row RowFault.GuardRange)) ≡ codes "refused guard_range\n" }
+    ensures limits { text_of_reply (Reply.Line (LineFault.Row RowFault.LimitOrder)) ≡ codes "refused limit_order\n" }
     ensures few { text_of_reply (Reply.Line (LineFault.Row RowFault.TooFew)) ≡ codes "refused too_few\n" }
     ensures many { text_of_reply (Reply.Line (LineFault.Row RowFault.TooMany)) ≡ codes "refused too_many\n" }
     ensures shape { text_of_reply (Reply.Line (LineFault.Row (RowFault.Shape 3))) ≡ codes "refused shape 3\n" }
@@ -235,4 +255,25 @@ pub fn worked_reports()
     ensures exact_expanded { text_of_reply (Reply.Said (Answer.Expanded (codes "S") (Reported.Exact (scaled (pos 3) 0)) (scaled (pos 196) 2)))
         ≡ codes "expanded S 3 U 0 k 1.96\n" }
     ensures unsettled_expanded { text_of_reply (Reply.Said (Answer.Expanded (codes "Z") Reported.Unsettled (scaled (pos 278) 2))) ≡ codes "expanded Z undecided\n" }
+{}
+
+/// Statements of conformity, and their texts.
+pub fn worked_decisions()
+    ensures pass { text_of_reply (Reply.Said (Answer.Decision (codes "Z") (codes "G") Said.Pass)) ≡ codes "decide Z G Pass\n" }
+    ensures conditional_pass { text_of_reply (Reply.Said (Answer.Decision (codes "Z") (codes "G") Said.ConditionalPass)) ≡ codes "decide Z G ConditionalPass\n" }
+    ensures conditional_fail { text_of_reply (Reply.Said (Answer.Decision (codes "Z") (codes "G") Said.ConditionalFail)) ≡ codes "decide Z G ConditionalFail\n" }
+    ensures fail { text_of_reply (Reply.Said (Answer.Decision (codes "Z") (codes "G") Said.Fail)) ≡ codes "decide Z G Fail\n" }
+    ensures guarded { text_of_reply (Reply.Said (Answer.Decision (codes "T.V") (codes "G") (Said.Undecided Guarded))) ≡ codes "decide T.V G Undecided 1\n" }
+    ensures inside { text_of_reply (Reply.Said (Answer.Decision (codes "Z") (codes "G") (Said.Undecided Inside))) ≡ codes "decide Z G Undecided 2\n" }
+    ensures near { text_of_reply (Reply.Said (Answer.Decision (codes "Z") (codes "G") (Said.Undecided Near))) ≡ codes "decide Z G Undecided 3\n" }
+{}
+
+/// Budgets, and their texts.
+pub fn worked_budgets()
+    ensures lines { text_of_reply (Reply.Said (Answer.Budget
+        (Input (codes "A") (whole (pos 5)) (whole (pos 4)) (whole (pos 1)) (whole (pos 4))
+        ∷ Input (codes "T.V") (from_to (pos 3) (pos 4)) (whole (pos 1)) (from_to (negsuc 1) (negsuc 0)) (from_to (pos 1) (pos 4))
+        ∷ Group (codes "G") (from_to (pos 3) (pos 5)) ∷ []) (codes "Y") (from_to (pos 3) (pos 5))))
+        ≡ codes "input A value 5 5 var 4 4 sens 1 1 own 4 4\ninput T.V value 3 4 var 1 1 sens -2 -1 own 1 4\ngroup G 3 5\nbudget Y 3 5\n" }
+    ensures no_lines { text_of_reply (Reply.Said (Answer.Budget [] (codes "C") (whole (pos 0)))) ≡ codes "budget C 0 0\n" }
 {}

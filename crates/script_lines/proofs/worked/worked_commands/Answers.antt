@@ -1,4 +1,8 @@
 use Rattle.std.proofs.Common.{refl}
+use std.Quotient.{/_rec₂}
+use Rattle.exact_fraction.specs.Fraction.{is_at_most}
+use Rattle.exact_fraction.specs.Number.{is_at_most_ℚ}
+use Rattle.decimal18.specs.Bound.{value_of}
 use Rattle.csv.proofs.OnLiterals.{csv_on_literals}
 use Rattle.table_records.specs.Tables.{records_read}
 use Rattle.decimal18.specs.Literal.{parsed}
@@ -59,3 +63,7 @@ returns-clause-table c = refl
 pub returns-clause-set_table : goal.returns-clause-set_table
 unfolding csv_on_literals block_read records_read parsed refusal
 returns-clause-set_table c = refl
+
+pub returns-clause-tolerance : goal.returns-clause-tolerance
+unfolding line_read row_read parsed value_of is_at_most_ℚ /_rec₂ is_at_most
+returns-clause-tolerance c = refl

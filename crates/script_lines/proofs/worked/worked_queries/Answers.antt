@@ -69,3 +69,19 @@ returns-clause-at_expanded c = refl
 pub returns-clause-at_dump : goal.returns-clause-at_dump
 unfolding line_read
 returns-clause-at_dump c = refl
+
+pub returns-clause-decision : goal.returns-clause-decision
+unfolding line_read
+returns-clause-decision c = refl
+
+pub returns-clause-budget : goal.returns-clause-budget
+unfolding line_read
+returns-clause-budget c = refl
+
+pub returns-clause-at_decision : goal.returns-clause-at_decision
+unfolding line_read
+returns-clause-at_decision c = refl
+
+pub returns-clause-at_budget : goal.returns-clause-at_budget
+unfolding line_read
+returns-clause-at_budget c = refl

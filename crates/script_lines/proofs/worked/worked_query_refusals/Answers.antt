@@ -86,10 +86,30 @@ pub returns-clause-after_other_level : goal.returns-clause-after_other_level
 unfolding line_read
 returns-clause-after_other_level c = refl
 
-pub returns-clause-decision : goal.returns-clause-decision
+pub returns-clause-no_rule : goal.returns-clause-no_rule
 unfolding line_read
-returns-clause-decision c = refl
+returns-clause-no_rule c = refl
 
-pub returns-clause-budget : goal.returns-clause-budget
+pub returns-clause-rule_column : goal.returns-clause-rule_column
 unfolding line_read
-returns-clause-budget c = refl
+returns-clause-rule_column c = refl
+
+pub returns-clause-no_decision_level : goal.returns-clause-no_decision_level
+unfolding line_read
+returns-clause-no_decision_level c = refl
+
+pub returns-clause-decision_level : goal.returns-clause-decision_level
+unfolding line_read
+returns-clause-decision_level c = refl
+
+pub returns-clause-after_decision : goal.returns-clause-after_decision
+unfolding line_read
+returns-clause-after_decision c = refl
+
+pub returns-clause-no_budget : goal.returns-clause-no_budget
+unfolding line_read
+returns-clause-no_budget c = refl
+
+pub returns-clause-two_budgets : goal.returns-clause-two_budgets
+unfolding line_read
+returns-clause-two_budgets c = refl

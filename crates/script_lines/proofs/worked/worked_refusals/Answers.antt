@@ -1,4 +1,8 @@
 use Rattle.std.proofs.Common.{refl}
+use std.Quotient.{/_rec₂}
+use Rattle.exact_fraction.specs.Fraction.{is_at_most}
+use Rattle.exact_fraction.specs.Number.{is_at_most_ℚ}
+use Rattle.decimal18.specs.Bound.{value_of}
 use Rattle.csv.proofs.OnLiterals.{csv_on_literals}
 use Rattle.type_a.specs.Tables.{refusal}
 use Rattle.table_records.specs.Tables.{records_read}
@@ -44,10 +48,6 @@ pub returns-clause-column : goal.returns-clause-column
 unfolding line_read row_read reading_of parsed
 returns-clause-column c = refl
 
-pub returns-clause-other_row : goal.returns-clause-other_row
-unfolding line_read row_read reading_of parsed
-returns-clause-other_row c = refl
-
 pub returns-clause-unknown : goal.returns-clause-unknown
 unfolding line_read row_read reading_of parsed
 returns-clause-unknown c = refl
@@ -87,3 +87,15 @@ returns-clause-table_column c = refl
 pub returns-clause-no_block : goal.returns-clause-no_block
 unfolding line_read
 returns-clause-no_block c = refl
+
+pub returns-clause-no_limit : goal.returns-clause-no_limit
+unfolding line_read row_read parsed
+returns-clause-no_limit c = refl
+
+pub returns-clause-guard : goal.returns-clause-guard
+unfolding line_read row_read parsed value_of is_at_most_ℚ /_rec₂ is_at_most
+returns-clause-guard c = refl
+
+pub returns-clause-limits : goal.returns-clause-limits
+unfolding line_read row_read parsed value_of is_at_most_ℚ /_rec₂ is_at_most
+returns-clause-limits c = refl

@@ -133,3 +133,11 @@ returns-clause-law_fault c = refl
 pub returns-clause-query_level : goal.returns-clause-query_level
 unfolding digits
 returns-clause-query_level c = refl
+
+pub returns-clause-guard : goal.returns-clause-guard
+unfolding digits
+returns-clause-guard c = refl
+
+pub returns-clause-limits : goal.returns-clause-limits
+unfolding digits
+returns-clause-limits c = refl
