@@ -12,7 +12,7 @@ use Rattle.type_b.specs.declared.shape.Dof.TheVariants.{Whole}
 use Rattle.covariance.specs.Groups.{Group, Single, Pair, Columns, AreRegular as GroupsAreRegular}
 use Rattle.covariance.specs.Renaming.{renamed_group}
 use Rattle.eff_dof.specs.GroupParts.{HasDegrees, HaveDegrees}
-use Rattle.sheet_rows.specs.Rows.{Row, Given, Readings, Joint, Correlation, Formula, Sheet, sheet_of}
+use Rattle.sheet_rows.specs.Rows.{Row, Given, Readings, Joint, Correlation, Formula, Tolerance, Sheet, sheet_of}
 use Rattle.sheet_rows.specs.Regular.{AreRegular}
 use Rattle.sheet_rows.specs.Sheets.{IsStanding}
 use Rattle.sheet_model.specs.Quantities.{quantities}
@@ -51,6 +51,7 @@ groups_degrees rows (Readings name table ∷ xs) h = (taken_degrees table h.0.3,
 groups_degrees rows (Joint name columns table ∷ xs) h = (taken_degrees table h.0.4, groups_degrees rows xs h.1)
 groups_degrees rows (Correlation name first second r ∷ xs) h = (refl, groups_degrees rows xs h.1)
 groups_degrees rows (Formula name f ∷ xs) h = groups_degrees rows xs h.1
+groups_degrees rows (Tolerance name rule ∷ xs) h = groups_degrees rows xs h.1
 
 pub sheet_degrees : (sheet : Sheet) → IsStanding sheet → HaveDegrees (groups sheet)
 sheet_degrees sheet h = groups_degrees sheet.rows sheet.rows h.regular

@@ -2,7 +2,7 @@
 use Rattle.std.specs.Prelude.{ℕ, ◌+◌, bytes_eq, List, [], ◌∷◌, ◌++◌, refl}
 use Rattle.std.specs.List.{flat_map}
 use Rattle.type_a.specs.Tables.{Table}
-use Rattle.sheet_rows.specs.Rows.{Row, Given, Readings, Joint, Correlation, Formula}
+use Rattle.sheet_rows.specs.Rows.{Row, Given, Readings, Joint, Correlation, Formula, Tolerance}
 use Rattle.sheet_model.specs.Quantities.{column_quantities, row_quantities}
 use Rattle.sheet_model.specs.Walks.{Quantities}
 use Rattle.adjoint_pass.specs.Sensitivities.{AllKeepNamesApart}
@@ -19,3 +19,4 @@ names_apart (Readings name table ∷ rows) = (tt, names_apart rows)
 names_apart (Joint name columns table ∷ rows) = columns_apart name table 0 columns (flat_map row_quantities rows) (names_apart rows)
 names_apart (Correlation name first second coefficient ∷ rows) = names_apart rows
 names_apart (Formula name f ∷ rows) = (λ m n. refl, names_apart rows)
+names_apart (Tolerance name rule ∷ rows) = names_apart rows

@@ -5,7 +5,7 @@ use Rattle.std.proofs.Common.{sym, ◌∙◌, ap, ap₂, subst, arith, length-ap
 use Rattle.std.proofs.lemmas.List.{append_assoc, append-nil, length-map, map-append}
 use Rattle.std.proofs.lemmas.List.Folds.{list_any-append, list_all-append}
 use Rattle.std.proofs.lemmas.Bool.{true≢false, and_parts, or_parts, and_from, not-true}
-use Rattle.sheet_rows.specs.Rows.{Row, Given, Readings, Joint, Correlation, Formula, Sheet, name_of, used_names, gives, correlated_names, correlates, is_correlatable}
+use Rattle.sheet_rows.specs.Rows.{Row, Given, Readings, Joint, Correlation, Formula, Tolerance, Sheet, name_of, used_names, gives, correlated_names, correlates, is_correlatable}
 use Rattle.sheet_rows.specs.Sheets.{IsWellFormed, row_limit, is_named, is_among, is_quantity_in, is_correlatable_in, repeated_name, are_correlatable, is_correlated_apart, are_apart, are_named_once, are_known, are_earlier}
 use Rattle.sheet_edits.specs.Verdicts.{added, rows_with, set_row}
 use Rattle.sheet_rows.proofs.Tests.{other_way, all_more, named_itself}
@@ -70,6 +70,7 @@ name-as_input (Readings name table) = refl
 name-as_input (Joint name columns table) = refl
 name-as_input (Correlation name first second coefficient) = refl
 name-as_input (Formula name formula) = refl
+name-as_input (Tolerance name rule) = refl
 
 known-as_input : (sheet : List Row) (row : Row) → are_known sheet (as_input row) ≡ true
 known-as_input sheet (Given name estimate shape dof) = refl
@@ -77,6 +78,7 @@ known-as_input sheet (Readings name table) = refl
 known-as_input sheet (Joint name columns table) = refl
 known-as_input sheet (Correlation name first second coefficient) = refl
 known-as_input sheet (Formula name formula) = refl
+known-as_input sheet (Tolerance name rule) = refl
 
 correlatable-as_input : (sheet : List Row) (row : Row) → are_correlatable sheet (as_input row) ≡ true
 correlatable-as_input sheet (Given name estimate shape dof) = refl
@@ -84,6 +86,7 @@ correlatable-as_input sheet (Readings name table) = refl
 correlatable-as_input sheet (Joint name columns table) = refl
 correlatable-as_input sheet (Correlation name first second coefficient) = refl
 correlatable-as_input sheet (Formula name formula) = refl
+correlatable-as_input sheet (Tolerance name rule) = refl
 
 correlates-as_input : (row : Row) (n : List ℕ) → correlates (as_input row) n ≡ false
 correlates-as_input (Given name estimate shape dof) n = refl
@@ -91,6 +94,7 @@ correlates-as_input (Readings name table) n = refl
 correlates-as_input (Joint name columns table) n = refl
 correlates-as_input (Correlation name first second coefficient) n = refl
 correlates-as_input (Formula name formula) n = refl
+correlates-as_input (Tolerance name rule) n = refl
 
 apart-as_input : (sheet : List Row) (row : Row) → are_apart sheet (as_input row) ≡ true
 apart-as_input sheet (Given name estimate shape dof) = refl
@@ -98,6 +102,7 @@ apart-as_input sheet (Readings name table) = refl
 apart-as_input sheet (Joint name columns table) = refl
 apart-as_input sheet (Correlation name first second coefficient) = refl
 apart-as_input sheet (Formula name formula) = refl
+apart-as_input sheet (Tolerance name rule) = refl
 
 is_among-inputs : (rows : List Row) (n : List ℕ) → is_among (map as_input rows) n ≡ is_among rows n
 is_among-inputs [] n = refl
@@ -162,6 +167,7 @@ given-as_input n (Readings name table) e = e
 given-as_input n (Joint name columns table) e = e
 given-as_input n (Correlation name first second coefficient) e = absurd (true≢false (sym e))
 given-as_input n (Formula name f) e = e
+given-as_input n (Tolerance name rule) e = e
 
 correlatable-as_input-too : (n : List ℕ) (row : Row) → (is_named n row && is_correlatable row) ≡ true
     → (is_named n (as_input row) && is_correlatable (as_input row)) ≡ true
@@ -170,6 +176,7 @@ correlatable-as_input-too n (Readings name table) e = e
 correlatable-as_input-too n (Joint name columns table) e = e
 correlatable-as_input-too n (Correlation name first second coefficient) e = absurd (true≢false (sym (and_parts (bytes_eq n name) false e).1))
 correlatable-as_input-too n (Formula name f) e = absurd (true≢false (sym (and_parts (bytes_eq n name) false e).1))
+correlatable-as_input-too n (Tolerance name rule) e = e
 
 -- no row as an input is a correlation
 none_apart : (row : Row) (n : List ℕ) (rows : List Row) → is_correlated_apart (map as_input rows) row n ≡ false
@@ -302,6 +309,7 @@ users_lead done (row ∷ rest) h =
     by (Joint name columns table) lead g = stays done rest (Joint name columns table) lead
     by (Correlation name first second coefficient) lead g = is_set done rest (Correlation name first second coefficient) g lead
     by (Formula name f) lead g = is_set done rest (Formula name f) g lead
+    by (Tolerance name rule) lead g = stays done rest (Tolerance name rule) lead
 
 pub rebuilt : (sheet : Sheet) → IsWellFormed sheet → IsBuiltBy (rebuild sheet) sheet
 rebuilt sheet h =

@@ -1,9 +1,10 @@
--- How a sheet is built again: its inputs and an input in the place of each formula and correlation first, then these.
+-- How a sheet is built again: its inputs, its rules of conformity, and an input in the place of each formula and correlation
+-- first, then these.
 use Rattle.std.specs.Prelude.{◌≡◌, List, [], ◌∷◌, ◌++◌, map}
 use Rattle.fixed_interval.specs.Rules.{zero_bound}
 use Rattle.type_b.specs.declared.shape.Shape.TheVariants.{Exact}
 use Rattle.type_b.specs.declared.shape.Dof.TheVariants.{Inf}
-use Rattle.sheet_rows.specs.Rows.{Row, Given, Readings, Joint, Correlation, Formula, Sheet}
+use Rattle.sheet_rows.specs.Rows.{Row, Given, Readings, Joint, Correlation, Formula, Tolerance, Sheet}
 use Rattle.answers.specs.declared.command.Query.{Query}
 use Rattle.answers.specs.declared.reply.Reply.TheVariants.{Fine}
 use Rattle.answers.specs.Commands.{Command, Change, Add, Set, Ask}
@@ -17,6 +18,7 @@ as_input (Readings name table) = Readings name table
 as_input (Joint name columns table) = Joint name columns table
 as_input (Correlation name first second coefficient) = Given name zero_bound Exact Inf
 as_input (Formula name formula) = Given name zero_bound Exact Inf
+as_input (Tolerance name rule) = Tolerance name rule
 
 abbrev pub additions : List Row → List Command
 additions rows = map (λ row. Change (Add (as_input row))) rows
@@ -28,6 +30,7 @@ users_set (Readings name table ∷ rows) = users_set rows
 users_set (Joint name columns table ∷ rows) = users_set rows
 users_set (Correlation name first second coefficient ∷ rows) = Change (Set (Correlation name first second coefficient)) ∷ users_set rows
 users_set (Formula name formula ∷ rows) = Change (Set (Formula name formula)) ∷ users_set rows
+users_set (Tolerance name rule ∷ rows) = users_set rows
 
 abbrev pub rebuild : Sheet → List Command
 rebuild sheet = additions sheet.rows ++ users_set sheet.rows

@@ -7,7 +7,7 @@ use Rattle.std.proofs.lemmas.List.{append_cancel_left}
 use Rattle.std.proofs.lemmas.Slice.Eq.{bytes_eq-Decides}
 use Rattle.formula_ast.specs.NewNames.{has}
 use Rattle.table_records.specs.Header.{most_columns, is_column, are_distinct, is_header}
-use Rattle.sheet_rows.specs.Rows.{Row, Given, Readings, Joint, Correlation, Formula, name_of, column_name, column_names, row_part, quantities_of}
+use Rattle.sheet_rows.specs.Rows.{Row, Given, Readings, Joint, Correlation, Formula, Tolerance, name_of, column_name, column_names, row_part, quantities_of}
 use Rattle.sheet_rows.specs.Regular.{IsRegular, AreRegular}
 use Rattle.sheet_rows.proofs.Columns.{other_column}
 use Rattle.sheet_rows.specs.Sheets.{is_among}
@@ -51,6 +51,7 @@ distinct_quantities (Readings name table) h = refl
 distinct_quantities (Joint name columns table) h = distinct_columns name columns (distinct_header columns h.1)
 distinct_quantities (Correlation name first second coefficient) h = refl
 distinct_quantities (Formula name f) h = refl
+distinct_quantities (Tolerance name rule) h = refl
 
 -- ---- distinct quantities with new names
 abbrev is_new : Quantities → List ℕ → Bool

@@ -10,7 +10,7 @@ use Rattle.exact_law.specs.Model.{Input as ModelInput, body_of as model_body_of}
 use Rattle.decimal18.specs.Bound.{value_of}
 use Rattle.type_a.specs.Tables.{Table}
 use Rattle.type_a.specs.Statistics.{exact_mean}
-use Rattle.sheet_rows.specs.Rows.{Row, Given, Readings, Joint, Correlation, Formula, Sheet, gives, gives_input}
+use Rattle.sheet_rows.specs.Rows.{Row, Given, Readings, Joint, Correlation, Formula, Tolerance, Sheet, gives, gives_input}
 use Rattle.sheet_rows.specs.Sheets.{is_input_in, has_input, IsStanding}
 use Rattle.sheet_rows.proofs.Quantities.{quantity_any, input_gives}
 use Rattle.value_cache.specs.Quantities.{Body, Input, Function, Column, body_of, is_there}
@@ -56,6 +56,7 @@ row_inputs (Readings name table) n e = (tt, tt)
 row_inputs (Joint name columns table) n e = column_inputs name table 0 columns
 row_inputs (Correlation name first second coefficient) n e = tt
 row_inputs (Formula name f) n e = absurd (true≢false (sym e))
+row_inputs (Tolerance name rule) n e = tt
 
 inputs_there : (rows : List Row) (n : List ℕ) → is_input_in rows n ≡ true → is_there bytes_eq (flat_map row_quantities rows) n ≡ true
 inputs_there rows n e = there-is_quantity rows n ∙ quantity_any rows n ∙ any rows e where

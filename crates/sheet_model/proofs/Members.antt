@@ -8,7 +8,7 @@ use Rattle.exact_law.specs.Law.{Column, inputs_of, inputs_with, all_members, mem
 use Rattle.formula_ast.specs.Names.{is_plain_name}
 use Rattle.type_a.specs.Tables.{Table}
 use Rattle.table_records.specs.Header.{are_distinct}
-use Rattle.sheet_rows.specs.Rows.{Row, Given, Readings, Joint, Correlation, Formula, name_of, column_name, column_names, row_part, gives, correlated_names, correlates, is_correlatable}
+use Rattle.sheet_rows.specs.Rows.{Row, Given, Readings, Joint, Correlation, Formula, Tolerance, name_of, column_name, column_names, row_part, gives, correlated_names, correlates, is_correlatable}
 use Rattle.sheet_rows.specs.Regular.{IsRegular, AreRegular}
 use Rattle.sheet_rows.proofs.Parts.{row_part-plain}
 use Rattle.sheet_rows.specs.Sheets.{is_named, is_among, are_named_once, is_correlatable_in, repeated_name, are_correlatable, is_correlated_apart, are_apart}
@@ -32,6 +32,7 @@ input_names (Readings name table) = name ∷ []
 input_names (Joint name columns table) = column_names name columns
 input_names (Correlation name first second coefficient) = []
 input_names (Formula name f) = []
+input_names (Tolerance name rule) = []
 
 abbrev pub is_input_of : List ℕ → Row → Bool
 is_input_of n row = list_any (bytes_eq n) (input_names row)
@@ -56,6 +57,7 @@ inputs_are (Joint name columns table ∷ rows) =
     inputs_of_columns name table 0 columns (flat_map row_quantities rows) ∙ ap (λ ns. column_names name columns ++ ns) (inputs_are rows)
 inputs_are (Correlation name first second coefficient ∷ rows) = inputs_are rows
 inputs_are (Formula name f ∷ rows) = inputs_are rows
+inputs_are (Tolerance name rule ∷ rows) = inputs_are rows
 
 -- ---- members
 -- the names of the inputs of a row that no correlation has put into a group
@@ -65,6 +67,7 @@ own_names rows (Readings name table) = name ∷ []
 own_names rows (Joint name columns table) = column_names name columns
 own_names rows (Correlation name first second coefficient) = []
 own_names rows (Formula name f) = []
+own_names rows (Tolerance name rule) = []
 
 abbrev pub member_names : List Row → Row → List (List ℕ)
 member_names rows row = own_names rows row ++ correlated_names row
@@ -90,6 +93,7 @@ members_are rows (Joint name columns table ∷ xs) =
     ap₂ (λ a b. a ++ b) (keys_are table 0 (column_names name columns) ∙ sym (append-nil (column_names name columns))) (members_are rows xs)
 members_are rows (Correlation name first second coefficient ∷ xs) = ap (λ ns. first ∷ second ∷ ns) (members_are rows xs)
 members_are rows (Formula name f ∷ xs) = members_are rows xs
+members_are rows (Tolerance name rule ∷ xs) = members_are rows xs
 
 -- ---- a name among the inputs
 -- an input of a row is one of its quantities, so that the row is that of the name before the point
@@ -99,6 +103,7 @@ input_given n (Readings name table) e = e
 input_given n (Joint name columns table) e = e
 input_given n (Correlation name first second coefficient) e = absurd (true≢false (sym e))
 input_given n (Formula name f) e = absurd (true≢false (sym e))
+input_given n (Tolerance name rule) e = absurd (true≢false (sym e))
 
 input_part : (n : List ℕ) (row : Row) → IsRegular row → is_input_of n row ≡ true → is_named (row_part n) row ≡ true
 input_part n row h e = gives_part row n h (input_given n row e)
@@ -109,6 +114,7 @@ distinct_inputs (Readings name table) h = refl
 distinct_inputs (Joint name columns table) h = distinct_quantities (Joint name columns table) h
 distinct_inputs (Correlation name first second coefficient) h = refl
 distinct_inputs (Formula name f) h = refl
+distinct_inputs (Tolerance name rule) h = refl
 
 none_given : (n : List ℕ) (row : Row) → IsRegular row → is_named (row_part n) row ≡ false → count n (input_names row) ≡ 0
 none_given n row h e = count_absent n (input_names row) (by (is_input_of n row) refl) where
@@ -178,6 +184,7 @@ at_most_inputs rows n (Readings name table) = omega arith
 at_most_inputs rows n (Joint name columns table) = omega arith
 at_most_inputs rows n (Correlation name first second coefficient) = omega arith
 at_most_inputs rows n (Formula name f) = omega arith
+at_most_inputs rows n (Tolerance name rule) = omega arith
 
 none_own : (rows : List Row) (n : List ℕ) (row : Row) → IsRegular row → is_named (row_part n) row ≡ false → count n (own_names rows row) ≡ 0
 none_own rows n row h e = omega (arith, at_most_inputs rows n row, none_given n row h e)
@@ -190,6 +197,7 @@ none_correlated rows n plain c (Readings name table) h e f = absurd (true≢fals
 none_correlated rows n plain c (Joint name columns table) h e f = absurd (true≢false (sym f))
 none_correlated rows n plain c (Correlation name first second coefficient) h e f = absurd (true≢false (sym f))
 none_correlated rows n plain c (Formula name g) h e f = absurd (true≢false (sym f))
+none_correlated rows n plain c (Tolerance name rule) h e f = absurd (true≢false (sym f))
 
 -- an input that may be correlated has the name of its row, which has no point
 correlatable_plain : (n : List ℕ) (xs : List Row) → AreRegular xs → is_correlatable_in xs n ≡ true → row_part n ≡ n
@@ -220,6 +228,7 @@ same_alone rows n c (Readings name table) = refl
 same_alone rows n c (Joint name columns table) = refl
 same_alone rows n c (Correlation name first second coefficient) = refl
 same_alone rows n c (Formula name f) = refl
+same_alone rows n c (Tolerance name rule) = refl
 
 -- one that is not stands there as often as among the inputs
 own_alone : (rows : List Row) (n : List ℕ) → is_correlated rows n ≡ false → (xs : List Row)
@@ -239,6 +248,7 @@ none_in_pair n (Correlation name first second coefficient) e =
     let last = or_parts (bytes_eq n second) false both.1 in
     ap₂ (λ a b. one_if a + (one_if b + 0)) (other_way n first both.0) (other_way n second last.0)
 none_in_pair n (Formula name f) e = refl
+none_in_pair n (Tolerance name rule) e = refl
 
 pair_by : (n first second : List ℕ) (t u : Bool) → bytes_eq n first ≡ t → bytes_eq n second ≡ u → bytes_eq first second ≡ false
     → (t || (u || false)) ≡ true → one_if t + (one_if u + 0) ≡ 1
@@ -261,6 +271,7 @@ one_in_pair n (Correlation name first second coefficient) h e =
     ap₂ (λ a b. one_if a + (one_if b + 0)) (both_ways_same first n) (both_ways_same second n)
     ∙ pair_by n first second (bytes_eq n first) (bytes_eq n second) refl refl (different first second (bytes_eq first second) refl h) e
 one_in_pair n (Formula name f) h e = absurd (true≢false (sym e))
+one_in_pair n (Tolerance name rule) h e = absurd (true≢false (sym e))
 
 pub none_in_pairs : (n : List ℕ) (xs : List Row) → is_correlated xs n ≡ false → count n (flat_map correlated_names xs) ≡ 0
 none_in_pairs n [] e = refl
@@ -376,6 +387,7 @@ may_be_input n (Readings name table) e = absurd (true≢false (sym (and_parts (b
 may_be_input n (Joint name columns table) e = absurd (true≢false (sym (and_parts (bytes_eq n name) false e).1))
 may_be_input n (Correlation name first second coefficient) e = absurd (true≢false (sym (and_parts (bytes_eq n name) false e).1))
 may_be_input n (Formula name f) e = absurd (true≢false (sym (and_parts (bytes_eq n name) false e).1))
+may_be_input n (Tolerance name rule) e = absurd (true≢false (sym (and_parts (bytes_eq n name) false e).1))
 
 pub correlatable_is_input : (n : List ℕ) (xs : List Row) → is_correlatable_in xs n ≡ true → is_in xs n ≡ true
 correlatable_is_input n xs = any_more (λ row. is_named n row && is_correlatable row) (is_input_of n) (may_be_input n) xs

@@ -5,7 +5,7 @@ use Rattle.std.proofs.Common.{sym, ◌∙◌, ap, ap₂}
 use Rattle.std.proofs.lemmas.List.{map-append}
 use Rattle.std.proofs.lemmas.Slice.Eq.{bytes_eq-Decides}
 use Rattle.type_a.specs.Tables.{Table}
-use Rattle.sheet_rows.specs.Rows.{Row, Given, Readings, Joint, Correlation, Formula, column_name, column_names, quantities_of}
+use Rattle.sheet_rows.specs.Rows.{Row, Given, Readings, Joint, Correlation, Formula, Tolerance, column_name, column_names, quantities_of}
 use Rattle.sheet_rows.specs.Sheets.{quantities_in, is_quantity_in}
 use Rattle.value_cache.specs.Quantities.{Quantity, is_there}
 use Rattle.sheet_model.specs.Quantities.{column_quantities, row_quantities}
@@ -34,6 +34,7 @@ row_names (Readings name table) = refl
 row_names (Joint name columns table) = names_of_columns name table 0 columns
 row_names (Correlation name first second coefficient) = refl
 row_names (Formula name f) = refl
+row_names (Tolerance name rule) = refl
 
 pub all_names : (rows : List Row) → names (flat_map row_quantities rows) ≡ quantities_in rows
 all_names [] = refl

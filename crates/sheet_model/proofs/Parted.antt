@@ -14,7 +14,7 @@ use Rattle.exact_law.specs.Law.{stand_in, AllGroups, IsSoundFor, PartTheInputs, 
 use Rattle.type_b.specs.declared.shape.Shape.{Shape}
 use Rattle.type_b.specs.Shapes.{checked}
 use Rattle.type_b.specs.Variances.{states_deviation}
-use Rattle.sheet_rows.specs.Rows.{Row, Given, Readings, Joint, Correlation, Formula, Sheet, name_of, column_name, correlated_names, correlates, is_correlatable, are_infinite}
+use Rattle.sheet_rows.specs.Rows.{Row, Given, Readings, Joint, Correlation, Formula, Tolerance, Sheet, name_of, column_name, correlated_names, correlates, is_correlatable, are_infinite}
 use Rattle.sheet_rows.specs.Regular.{AreRegular, is_coefficient}
 use Rattle.sheet_rows.specs.Sheets.{is_named, is_among, are_named_once, is_correlatable_in, repeated_name, are_correlatable, IsStanding}
 use Rattle.sheet_rows.proofs.Tests.{same_name}
@@ -48,6 +48,7 @@ own_input rows n (Readings name table) e = e
 own_input rows n (Joint name columns table) e = e
 own_input rows n (Correlation name first second coefficient) e = e
 own_input rows n (Formula name f) e = e
+own_input rows n (Tolerance name rule) e = e
 
 -- a member that a row puts into a group is an input of the row, or one that may be correlated
 member_by : (rows : List Row) (row : Row) (n : List ℕ) (P : Type 0) → are_correlatable rows row ≡ true → (is_input_of n row ≡ true → P)
@@ -96,6 +97,7 @@ stated_by n (Readings name table) xs true true e f new h g rest = absurd (true�
 stated_by n (Joint name columns table) xs true true e f new h g rest = absurd (true≢false (sym f))
 stated_by n (Correlation name first second coefficient) xs true true e f new h g rest = absurd (true≢false (sym f))
 stated_by n (Formula name k) xs true true e f new h g rest = absurd (true≢false (sym f))
+stated_by n (Tolerance name rule) xs true true e f new h g rest = absurd (true≢false (sym f))
 stated_by n x xs true false e f new h g rest =
     absurd (true≢false (sym g ∙ has_none is_correlatable n xs (ap (is_among xs) (same_name n (name_of x) e) ∙ new)))
 stated_by n x xs false u e f new h g rest = rest g
@@ -148,6 +150,7 @@ groups_regular rows (Correlation name first second r ∷ xs) once regular c h =
     let within = within_one r h.0.4 in
     ((one.0, one.1, two.0, two.1, within.0, within.1), groups_regular rows xs once regular both.1 h.1)
 groups_regular rows (Formula name f ∷ xs) once regular c h = groups_regular rows xs once regular c h.1
+groups_regular rows (Tolerance name rule ∷ xs) once regular c h = groups_regular rows xs once regular c h.1
 
 pub regular_groups : (sheet : Sheet) → IsStanding sheet → GroupsAreRegular (groups sheet)
 regular_groups sheet h = groups_regular sheet.rows sheet.rows h.well_formed.once h.regular h.well_formed.correlatable h.regular

@@ -12,7 +12,7 @@ use Rattle.decimal18.specs.Bound.{Bound}
 use Rattle.type_b.specs.declared.shape.Shape.{Shape}
 use Rattle.type_b.specs.declared.shape.Dof.{Dof}
 use Rattle.type_b.specs.declared.shape.Shape.TheVariants.{Exact}
-use Rattle.sheet_rows.specs.Rows.{Row, Given, Readings, Joint, Correlation, Formula, name_of, correlates}
+use Rattle.sheet_rows.specs.Rows.{Row, Given, Readings, Joint, Correlation, Formula, Tolerance, name_of, correlates}
 use Rattle.sheet_rows.specs.Sheets.{is_named, is_among, are_named_once}
 use Rattle.sheet_rows.proofs.Tests.{same_name, other_way, both_ways_same}
 use Rattle.sheet_rows.proofs.Named.{once_head, once_tail}
@@ -73,6 +73,7 @@ shape_found rows (Joint name columns table) n found new e = e ∙ unstated rows 
 shape_found rows (Correlation name first second r) n found new e =
     e ∙ unstated rows (Correlation name first second r) n (bytes_eq n name) refl new
 shape_found rows (Formula name f) n found new e = e ∙ unstated rows (Formula name f) n (bytes_eq n name) refl new
+shape_found rows (Tolerance name rule) n found new e = e ∙ unstated rows (Tolerance name rule) n (bytes_eq n name) refl new
 
 -- ---- the walk
 stated_more : (before : List Row) (row : Row) (old new : Statements) → is_among before (name_of row) ≡ false → AreStated before old

@@ -8,7 +8,7 @@ use Rattle.std.proofs.lemmas.Bool.{and_parts, or_parts, and_from, not-true}
 use Rattle.formula_ast.specs.Trees.{uses}
 use Rattle.formula_ast.specs.Printing.{print}
 use Rattle.formula_ast.proofs.Exponents.{read_exponents}
-use Rattle.sheet_rows.specs.Rows.{Row, Given, Readings, Joint, Correlation, Formula, Sheet, name_of}
+use Rattle.sheet_rows.specs.Rows.{Row, Given, Readings, Joint, Correlation, Formula, Tolerance, Sheet, name_of}
 use Rattle.sheet_rows.specs.Sheets.{is_among, is_quantity_in, are_named_once, are_known, are_earlier, IsStanding}
 use Rattle.sheet_rows.specs.Regular.{IsRegular, AreRegular}
 use Rattle.sheet_rows.proofs.Tests.{other_way, all_none, list_all_agree}
@@ -41,6 +41,7 @@ exponents_of_rows (Joint name columns table ∷ rows) h =
     columns_have_exponents name table 0 columns (flat_map row_quantities rows) (exponents_of_rows rows h.1)
 exponents_of_rows (Correlation name first second coefficient ∷ rows) h = exponents_of_rows rows h.1
 exponents_of_rows (Formula name f ∷ rows) h = (read_exponents (print f) f h.0.1, exponents_of_rows rows h.1)
+exponents_of_rows (Tolerance name rule ∷ rows) h = exponents_of_rows rows h.1
 
 -- a regular row whose names are known uses quantities that are there, and its readings are taken
 known_by : (before : List Row) (row : Row) → IsRegular row → are_known before row ≡ true → AllUseOnly (flat_map row_quantities before) (row_quantities row)
@@ -50,6 +51,7 @@ known_by before (Readings name table) regular e =
 known_by before (Joint name columns table) regular e =
     known_columns (flat_map row_quantities before) name table 0 columns regular.4 (omega (arith, regular.3))
 known_by before (Correlation name first second coefficient) regular e = tt
+known_by before (Tolerance name rule) regular e = tt
 known_by before (Formula name f) regular e = (
   uses_names (flat_map row_quantities before) f
       (all_none (is_there bytes_eq (flat_map row_quantities before)) (uses f)

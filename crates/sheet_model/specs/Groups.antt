@@ -6,7 +6,7 @@ use Rattle.exact_law.specs.Law as law
 use Rattle.exact_law.specs.Law.{inputs_of}
 use Rattle.type_b.specs.declared.shape.Shape.{Shape}
 use Rattle.type_b.specs.declared.shape.Shape.TheVariants.{Exact}
-use Rattle.sheet_rows.specs.Rows.{Row, Given, Readings, Joint, Correlation, Formula, Sheet, column_names, correlates}
+use Rattle.sheet_rows.specs.Rows.{Row, Given, Readings, Joint, Correlation, Formula, Tolerance, Sheet, column_names, correlates}
 use Rattle.sheet_rows.specs.Sheets.{is_named}
 use Rattle.value_cache.specs.Model.{model_of}
 use Rattle.covariance.specs.Groups.{Group, Single, Pair, Columns, exact_group}
@@ -27,6 +27,7 @@ shape_of_row (Readings name table) = Exact
 shape_of_row (Joint name columns table) = Exact
 shape_of_row (Correlation name first second coefficient) = Exact
 shape_of_row (Formula name formula) = Exact
+shape_of_row (Tolerance name rule) = Exact
 
 abbrev pub shape_in : List Row → List ℕ → Shape
 shape_in [] n = Exact
@@ -41,6 +42,7 @@ row_groups rows (Joint name columns table) = Columns (column_names name columns)
 row_groups rows (Correlation name first second coefficient) =
     Pair first (shape_in rows first) second (shape_in rows second) coefficient ∷ []
 row_groups rows (Formula name formula) = []
+row_groups rows (Tolerance name rule) = []
 
 abbrev pub groups : Sheet → List (Group (List ℕ))
 groups sheet = flat_map (row_groups sheet.rows) sheet.rows

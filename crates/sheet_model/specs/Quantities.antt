@@ -2,7 +2,7 @@
 use Rattle.std.specs.Prelude.{ℕ, List, [], ◌∷◌, map}
 use Rattle.std.specs.List.{flat_map, enumerate_from}
 use Rattle.type_a.specs.Tables.{Table}
-use Rattle.sheet_rows.specs.Rows.{Row, Given, Readings, Joint, Correlation, Formula, Sheet, column_name}
+use Rattle.sheet_rows.specs.Rows.{Row, Given, Readings, Joint, Correlation, Formula, Tolerance, Sheet, column_name}
 use Rattle.value_cache.specs.Quantities.{Input, Column, Quantity, by_names}
 
 -- a column of a table, by its place and its name
@@ -20,6 +20,7 @@ row_quantities (Readings name table) = record { key = name; body = Column table 
 row_quantities (Joint name columns table) = column_quantities name table 0 columns
 row_quantities (Correlation name first second coefficient) = []
 row_quantities (Formula name formula) = record { key = name; body = by_names formula } ∷ []
+row_quantities (Tolerance name rule) = []
 
 -- those of its rows, joined
 abbrev pub quantities : Sheet → List (Quantity (List ℕ))

@@ -5,7 +5,7 @@ use Rattle.std.specs.Map.{lookup}
 use Rattle.std.specs.Option.{unwrap_or}
 use Rattle.type_b.specs.declared.shape.Shape.{Shape}
 use Rattle.type_b.specs.declared.shape.Shape.TheVariants.{Exact}
-use Rattle.sheet_rows.specs.Rows.{Row, Given, Readings, Joint, Correlation, Formula, correlates}
+use Rattle.sheet_rows.specs.Rows.{Row, Given, Readings, Joint, Correlation, Formula, Tolerance, correlates}
 use Rattle.sheet_model.specs.Groups.{is_correlated, shape_in}
 use Rattle.sheet_model.specs.declared.statements.Statements.{Statements}
 
@@ -21,6 +21,7 @@ shape_after (Readings name table) n found = found
 shape_after (Joint name columns table) n found = found
 shape_after (Correlation name first second coefficient) n found = found
 shape_after (Formula name formula) n found = found
+shape_after (Tolerance name rule) n found = found
 
 -- what one row says is added
 pub record StatesMore (old : Statements) (row : Row) (new : Statements) : Type 0 where

@@ -97,7 +97,7 @@ impl Numbered {
                 second_shape: stated.shape(second),
                 coefficient: *coefficient,
             }),
-            Row::Formula { .. } => Ok(()),
+            Row::Formula { .. } | Row::Tolerance { .. } => Ok(()),
         }
     }
 

@@ -113,7 +113,7 @@ impl Numbered {
                 columns,
                 readings,
             } => self.add_columns(name, columns.as_slice(), readings),
-            Row::Correlation { .. } => Ok(()),
+            Row::Correlation { .. } | Row::Tolerance { .. } => Ok(()),
             Row::Formula { name, formula } => self.add_formula(alloc, *name, formula),
         }
     }

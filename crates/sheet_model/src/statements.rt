@@ -64,7 +64,10 @@ impl Statements {
         match row {
             Row::Given { name, shape, .. } => self.add_shape(*name, *shape),
             Row::Correlation { first, second, .. } => self.add_pair(*first, *second),
-            Row::Readings { .. } | Row::Joint { .. } | Row::Formula { .. } => Ok(()),
+            Row::Readings { .. }
+            | Row::Joint { .. }
+            | Row::Formula { .. }
+            | Row::Tolerance { .. } => Ok(()),
         }
     }
 
