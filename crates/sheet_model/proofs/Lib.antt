@@ -12,4 +12,5 @@ pub mod Members
 pub mod Parted
 pub mod Stated
 pub mod Grouping
+pub mod Budgeted
 pub mod SheetGroups

@@ -6,3 +6,4 @@ pub mod Walks
 pub mod Numbering
 pub mod Statements
 pub mod Grouping
+pub mod Budgets

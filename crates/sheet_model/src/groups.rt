@@ -6,18 +6,19 @@ ghost use Rattle.covariance.specs.Groups.{Single, AreRegular};
 ghost use Rattle.covariance.specs.Renaming.{renamed_group};
 ghost use Rattle.sheet_rows.specs.Rows.{Row as SheetRow, row_of, sheet_of, column_names, quantities_of, correlated_names};
 ghost use Rattle.sheet_rows.specs.Regular.{IsRegular};
-ghost use Rattle.sheet_rows.specs.Sheets.{IsStanding};
+ghost use Rattle.sheet_rows.specs.Sheets.{IsStanding, are_named_once};
 ghost use Rattle.sheet_model.specs.Quantities.{quantities};
 ghost use Rattle.sheet_model.specs.Groups.{row_groups, groups};
 ghost use Rattle.sheet_model.specs.Walks.{names};
 ghost use Rattle.sheet_model.specs.Numbering.{number_in, number_among};
 ghost use Rattle.sheet_model.specs.Statements.{AreStated};
+ghost use Rattle.sheet_model.specs.Budgets.{group_names, row_names};
 
 use crate::numbering::Numbered;
 use crate::statements::Statements;
 use covariance::{Group, GroupList};
 use dep_graph::IdList;
-use formula_ast::Name;
+use formula_ast::{Name, NameList};
 use line_text::OutOfMemory;
 use sheet_rows::{Row, column_name};
 use std::alloc::Global;
@@ -152,4 +153,44 @@ impl Numbered {
         }
         Ok(ids)
     }
+}
+
+/// The names of the rows that make the groups of the sheet of these rows, in the order of the groups.
+///
+/// # Errors
+///
+/// [`OutOfMemory`] where there is no memory for them.
+pub fn group_names(alloc: Global, rows: &[Rc<Row>]) -> Result<NameList, OutOfMemory>
+    requires { are_named_once (map (λ row. row_of row.value) rows.now) ≡ true }
+    ensures { IfOk result (λ found. found ≡ group_names (sheet_of (map (λ row. row_of row.value) rows.now))) }
+{
+    let stated = Statements::of(alloc, rows)?;
+    let mut found = NameList::new(alloc)?;
+    for row in rows {
+        add_name(&stated, row, &mut found)?;
+    }
+    Ok(found)
+}
+
+// Puts the name of a row at the end, where the row makes a group.
+fn add_name(stated: &Statements, row: &Row, found: &mut NameList) -> Result<(), OutOfMemory>
+    ensures { (rows : List SheetRow) → AreStated rows stated.now
+        → OnOk result (found.new ≡ found.old ++ row_names rows (row_of row.now)) }
+{
+    match row {
+        Row::Given { name, .. } => add_name_alone(stated, name, found),
+        Row::Readings { name, .. } | Row::Joint { name, .. } | Row::Correlation { name, .. } =>
+            found.push(*name),
+        Row::Formula { .. } | Row::Tolerance { .. } => Ok(()),
+    }
+}
+
+// Puts the name of an input at the end, where no row correlates it.
+fn add_name_alone(stated: &Statements, name: &Name, found: &mut NameList) -> Result<(), OutOfMemory>
+    ensures { OnOk result (found.new ≡ found.old ++ (if list_any (bytes_eq name.now) stated.now.correlated.keys then [] else name.now ∷ [])) }
+{
+    if !stated.is_correlated(name) {
+        return found.push(*name);
+    }
+    Ok(())
 }

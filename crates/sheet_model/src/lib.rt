@@ -6,6 +6,12 @@ mod groups;
 mod laws;
 mod numbering;
 mod statements;
+mod variances;
 
-pub use laws::{groups_part_the_inputs, worked_groups, worked_quantities};
+pub use groups::group_names;
+pub use laws::{
+    budgets_have_the_inputs_and_the_groups, groups_part_the_inputs, worked_groups, worked_names,
+    worked_quantities,
+};
 pub use numbering::Numbered;
+pub use variances::{InputVariance, VarianceList, input_variances};
