@@ -33,7 +33,7 @@ input_is_there qs n i = by (body_of bytes_eq qs n) (sym (model-body_of bytes_eq 
 
 module _ (sheet : Sheet) (h : IsStanding sheet) where
   -- at each member of the groups the sensitivities are the same
-  members_agree : (y : List ℕ) (found : Gradient) → IsGradientIn sheet y found
+  pub members_agree : (y : List ℕ) (found : Gradient) → IsGradientIn sheet y found
       → EachMember (λ n. found_at found (number_among (quantities sheet) n) ≡ gradient_of bytes_eq (quantities sheet) y n) (groups sheet)
   members_agree y found g =
       each_member_then (IsInput bytes_eq (model_of (quantities sheet)))

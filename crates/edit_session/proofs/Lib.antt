@@ -7,9 +7,13 @@ pub mod Cells
 pub mod Rebuilding
 pub mod Found
 pub mod GroupDegrees
+pub mod Deciding
+pub mod Budgeting
 pub mod Lawful
 pub mod ReplyLaws
 pub mod Asking
 pub mod Gradients
 pub mod LawNumbers
+pub mod BudgetNumbers
 pub mod Needed
+pub mod BudgetAnswers

@@ -1,14 +1,19 @@
 -- What the replies of a sheet say of its exact law, and which names are those of results.
 use Rattle.std.specs.Prelude.{◌≡◌, ◌↔◌, ℕ, Bool, true, false, if◌then◌else◌, is_some, bytes_eq, IsTrue, not, List, Option, Some, None, option_map, Result, Ok, Err, IfOk, refl}
+use Rattle.std.specs.Option.{ok_or}
 use Rattle.std.proofs.Common.{sym, ◌∙◌, ap, subst}
 use Rattle.std.proofs.lemmas.Bool.{true≢false}
 use Rattle.std.proofs.lemmas.Option.{none-some, same_Some}
 use Rattle.fixed_interval.specs.Interval.{Interval}
+use Rattle.budget_table.specs.Budgets.{budget_lines}
 use Rattle.fixed_interval.specs.declared.faults.Overflow.{Overflow}
 use Rattle.round_out.specs.Reports.{expanded_of, reported_of}
 use Rattle.round_out.specs.declared.outcome.Reported.{Reported}
 use Rattle.round_out.specs.declared.outcome.Reported.TheVariants.{Exact, Rounded, Unsettled}
 use Rattle.round_out.proofs.Holding.{reported_holds, expanded_holds, factor_is}
+use Rattle.guard_band.specs.declared.rule.Rule.{Rule}
+use Rattle.guard_band.specs.declared.rule.Said.{Said as SaidOfRule}
+use Rattle.guard_band.proofs.Exact.{statement_is_exact}
 use Rattle.table_g2.specs.Factors.{column, factor_span}
 use Rattle.table_g2.specs.Said.{said}
 use Rattle.table_g2.specs.Known.{Allows, AreDegrees}
@@ -19,7 +24,7 @@ use Rattle.table_g2.proofs.SaidRanges.{answer_holds}
 use Rattle.exact_fraction.specs.Number.{ℚ}
 use Rattle.decimal18.specs.Bound.{Bound, value_of}
 use Rattle.sheet_rows.specs.Rows.{Sheet}
-use Rattle.sheet_rows.specs.Sheets.{has_quantity, has_input, IsStanding}
+use Rattle.sheet_rows.specs.Sheets.{has_quantity, has_input, has_rule, rule_of, IsStanding}
 use Rattle.value_cache.specs.Evaluations.{evaluation_of}
 use Rattle.value_cache.specs.Model.{HasValueIn}
 use Rattle.value_cache.specs.declared.evaluation.Evaluation.{Evaluation}
@@ -31,10 +36,10 @@ use Rattle.answers.specs.Commands.{Command, Change, Undo, Redo, Mark, Restore, A
 use Rattle.sheet_rows.specs.Regular.{AreRegular}
 use Rattle.answers.specs.Replies.{IsRegularAnswer}
 use Rattle.answers.specs.declared.command.Query.{Query}
-use Rattle.answers.specs.declared.command.Query.TheVariants.{Value as AskValue, Variance as AskVariance, Covariance as AskCovariance, Correlation as AskCorrelation, Sensitivity as AskSensitivity, Degrees as AskDegrees, Report as AskReport, Expanded as AskExpanded, Dump as AskDump}
+use Rattle.answers.specs.declared.command.Query.TheVariants.{Value as AskValue, Variance as AskVariance, Covariance as AskCovariance, Correlation as AskCorrelation, Sensitivity as AskSensitivity, Degrees as AskDegrees, Report as AskReport, Expanded as AskExpanded, Decide as AskDecide, Budget as AskBudget, Dump as AskDump}
 use Rattle.answers.specs.declared.fault.AskFault.TheVariants.{NoSuchResult}
 use Rattle.answers.specs.declared.reply.Answer.{Answer}
-use Rattle.answers.specs.declared.reply.Answer.TheVariants.{Value, Variance, Covariance, Correlation, Sensitivity, Degrees, Report, Expanded, Dump, ValueFault, LawOverflow}
+use Rattle.answers.specs.declared.reply.Answer.TheVariants.{Value, Variance, Covariance, Correlation, Sensitivity, Degrees, Report, Expanded, Decision, Budget, Dump, ValueFault, LawOverflow}
 use Rattle.answers.specs.declared.reply.Reply.{Reply}
 use Rattle.answers.specs.declared.reply.Reply.TheVariants.{Ask, Said}
 use Rattle.sheet_model.specs.Quantities.{quantities}
@@ -42,12 +47,14 @@ use Rattle.sheet_model.specs.Groups.{groups}
 use Rattle.sheet_model.proofs.Names.{there-is_quantity}
 use Rattle.sheet_model.proofs.Walking.{evaluable}
 use Rattle.sheet_model.proofs.Inputs.{sheet_input}
-use Rattle.edit_session.specs.Replies.{Stop, Unknown, Faulted, OutOfRange, Found, and_then, in_range, value_by, value_in, gradient_in, variance_in, covariance_in, correlation_in, degrees_in, answer_of_one, answer_of_two, expanded_by, expanded_in, answer_in, unless_there, unknown_result, reply_of_stop, reply_of, reply_by, reply_to}
+use Rattle.edit_session.specs.Replies.{Stop, Unknown, Faulted, OutOfRange, Found, and_then, in_range, value_by, value_in, gradient_in, variance_in, covariance_in, correlation_in, degrees_in, answer_of_one, answer_of_two, expanded_by, expanded_in, rule_by, statement_by, decided_in, inputs_in, parts_in, budget_in, answer_in, unless_there, unknown_result, reply_of_stop, reply_of, reply_by, reply_to}
 use Rattle.edit_session.specs.Machine.{State, kept_as, step, reply_at}
-use Rattle.edit_session.specs.Sound.{IsFactor, HasExpandedIn, exact_value_in, factor_in, law_in, exact_degrees_in, IsSoundAnswer, IsSoundReply, asked, IsSoundOn}
+use Rattle.edit_session.specs.Sound.{IsFactor, HasExpandedIn, HasStatementIn, exact_value_in, factor_in, law_in, exact_degrees_in, IsSoundAnswer, IsSoundReply, asked, IsSoundOn}
 use Rattle.edit_session.specs.Standing.{IsStandingState}
 use Rattle.edit_session.specs.Calls.{is_refusal}
 use Rattle.edit_session.proofs.Standing.{kept-standing}
+use Rattle.edit_session.proofs.Budgeting.{inputs_known, parts_known, budget_holds}
+use Rattle.edit_session.proofs.Deciding.{rule_found, decided_by}
 use Rattle.edit_session.proofs.Found.{if_then, if_in_range, of_ok, IsKnown, known_then, known_range}
 use Rattle.edit_session.proofs.Lawful.{gradient_by, HasSlopes, value_holds, one_holds, two_holds, IsVariance, variance_holds, covariance_holds, correlation_holds, degrees_hold}
 
@@ -90,6 +97,45 @@ module _ (sheet : Sheet) (h : IsStanding sheet) where
             said = expanded_holds value v (factor_span nu level) (exact_value_in sheet y) (law_in sheet y y) (factor_in sheet y level) holds.enclosed variance.0 k reported g;
             factor = factor_said reported (factor_span nu level).lo (factor_in sheet y level) (factor_is value v (factor_span nu level) (factor_in sheet y level) k reported g);
           }
+
+  decided_sound : (y t : List ℕ) (level : Level) (rule : Rule) → rule_of sheet t ≡ Some rule → (value : Interval) → HasValueIn bytes_eq (quantities sheet) y value
+      → HasSlopes sheet y → IfOk (decided_in sheet y t level rule value (gradient_by sheet y)) (IsSoundAnswer sheet (AskDecide y t level))
+  decided_sound y t level rule of_row value holds s =
+      let P = IsSoundAnswer sheet (AskDecide y t level) in
+      if_then (degrees_in sheet (gradient_by sheet y)) _ P
+      (λ nu e. if_then (variance_in sheet (gradient_by sheet y)) _ P
+      (λ v f. if_then (statement_by rule value v (factor_span nu level)) _ P (λ said g. (level, (refl, of_said nu e v f said g)))))
+    where
+      of_said : (nu : Nu) → degrees_in sheet (gradient_by sheet y) ≡ Ok nu → (v : Interval) → variance_in sheet (gradient_by sheet y) ≡ Ok v
+          → (said : SaidOfRule) → statement_by rule value v (factor_span nu level) ≡ Ok said → HasStatementIn sheet y t level said
+      of_said nu e v f said g =
+          let degrees = of_ok (degrees_in sheet (gradient_by sheet y)) (λ n. Allows n (exact_degrees_in sheet y) × AreDegrees n) (degrees_hold sheet h y s) nu e in
+          let k = span_encloses nu level (exact_degrees_in sheet y) degrees.0 in
+          let variance = of_ok (variance_in sheet (gradient_by sheet y)) (IsVariance sheet h y) (variance_holds sheet h y s) v f in
+          record {
+            defined = holds.defined;
+            rule = rule;
+            of_row = of_row;
+            exact = λ st d. statement_is_exact rule value v (factor_span nu level) st (decided_by rule value v (factor_span nu level) said g st d)
+                (exact_value_in sheet y) (law_in sheet y y) (factor_in sheet y level) holds.enclosed variance.0 k;
+          }
+
+  budget_sound : (y : List ℕ) (value : Interval) → HasValueIn bytes_eq (quantities sheet) y value → HasSlopes sheet y
+      → IfOk (budget_in sheet y (gradient_by sheet y)) (IsSoundAnswer sheet (AskBudget y))
+  budget_sound y value holds s =
+      let P = IsSoundAnswer sheet (AskBudget y) in
+      if_then (variance_in sheet (gradient_by sheet y)) _ P
+      (λ v e. let is = of_ok (variance_in sheet (gradient_by sheet y)) (IsVariance sheet h y) (variance_holds sheet h y s) v e in
+      if_then (inputs_in sheet (gradient_by sheet y)) _ P
+      (λ inputs f. if_then (parts_in sheet (gradient_by sheet y)) _ P
+      (λ parts g. if_then (in_range (ok_or (budget_lines inputs parts) (record {}))) _ P
+      (λ lines k. (
+        refl,
+        record {
+          has_variance = record { defined = holds.defined; enclosed = is.0; not_negative = is.1 };
+          each = budget_holds sheet h y s inputs parts f g lines k;
+        },
+      )))))
 
   pub answer_sound : (query : Query) → unknown_result sheet query ≡ None → IfOk (answer_in sheet query) (IsSoundAnswer sheet query)
   answer_sound (AskValue y) e =
@@ -141,6 +187,13 @@ module _ (sheet : Sheet) (h : IsStanding sheet) where
       (refl, record { defined = holds.defined; said = reported_holds value v (exact_value_in sheet y) (law_in sheet y y) holds.enclosed is.0 })))
   answer_sound (AskExpanded y level) e =
       one_holds sheet h y (there_of_one (has_quantity sheet y) y e) _ (IsSoundAnswer sheet (AskExpanded y level)) (expanded_sound y level)
+  answer_sound (AskDecide y t level) e =
+      let there = there_of_two (has_quantity sheet y) (has_rule sheet t) y t e in
+      let P = IsSoundAnswer sheet (AskDecide y t level) in
+      if_then (rule_by t (rule_of sheet t)) _ P
+      (λ rule f. one_holds sheet h y there.0 (decided_in sheet y t level rule) P (decided_sound y t level rule (rule_found t (rule_of sheet t) rule f)))
+  answer_sound (AskBudget y) e =
+      one_holds sheet h y (there_of_one (has_quantity sheet y) y e) _ (IsSoundAnswer sheet (AskBudget y)) (budget_sound y)
   answer_sound AskDump e = (refl, refl)
 
   pub reply_sound : (query : Query) → IsSoundReply sheet query (reply_to sheet query)
@@ -179,6 +232,8 @@ sound_regular sheet h query (Sensitivity y x s) k = tt
 sound_regular sheet h query (Degrees y nu) k = tt
 sound_regular sheet h query (Report y reported) k = tt
 sound_regular sheet h query (Expanded y reported factor) k = tt
+sound_regular sheet h query (Decision y t said) k = tt
+sound_regular sheet h query (Budget lines y s) k = tt
 sound_regular sheet h query (Dump rows) k = subst AreRegular (sym k.1) h.regular
 sound_regular sheet h query (ValueFault fault row) k = tt
 sound_regular sheet h query LawOverflow k = tt
@@ -218,6 +273,10 @@ two_known sheet h y z e answer k =
     (λ first. known_then (value_in sheet z) _ (value_known sheet h z there.1)
     (λ second. known_then (gradient_in sheet y) _ (gradient_known sheet y) (λ dy. known_then (gradient_in sheet z) _ (gradient_known sheet z) (λ dz. k dy dz))))
 
+rule_known : (t : List ℕ) (o : Option Rule) → is_some o ≡ true → IsKnown (rule_by t o)
+rule_known t None e = absurd (true≢false (sym e))
+rule_known t (Some rule) e = tt
+
 range_known : {A : Type 0} (r : Result A Overflow) (next : A → Answer) → IsKnown (and_then (in_range r) (λ x. Ok (next x)))
 range_known r next = known_then (in_range r) (λ x. Ok (next x)) (known_range r) (λ x. tt)
 
@@ -238,6 +297,17 @@ answer_known sheet h (AskExpanded y level) e =
     one_known sheet h y e _
     (λ value dy. known_then (degrees_in sheet dy) _ (known_range _)
     (λ nu. known_then (variance_in sheet dy) _ (known_range _) (λ v. range_known _ (λ reported. Expanded y reported (factor_span nu level).lo))))
+answer_known sheet h (AskDecide y t level) e =
+    let there = there_of_two (has_quantity sheet y) (has_rule sheet t) y t e in
+    known_then (rule_by t (rule_of sheet t)) _ (rule_known t (rule_of sheet t) there.1)
+    (λ rule. one_known sheet h y (ap (λ b. unless_there b y None) there.0) _
+    (λ value dy. known_then (degrees_in sheet dy) _ (known_range _)
+    (λ nu. known_then (variance_in sheet dy) _ (known_range _) (λ v. range_known _ (λ said. Decision y t said)))))
+answer_known sheet h (AskBudget y) e =
+    one_known sheet h y e _
+    (λ value dy. known_then (variance_in sheet dy) _ (known_range _)
+    (λ v. known_then (inputs_in sheet dy) _ (inputs_known sheet dy (λ x. value_known sheet h x))
+    (λ inputs. known_then (parts_in sheet dy) _ (parts_known sheet dy) (λ parts. range_known _ (λ lines. Budget lines y v)))))
 answer_known sheet h AskDump e = tt
 
 -- the reply is no refusal

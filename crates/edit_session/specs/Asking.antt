@@ -1,10 +1,11 @@
 -- What the code finds of a sheet that is asked, by the numbers of quantities.
-use Rattle.std.specs.Prelude.{◌≡◌, ℕ, ◌<◌, true, List, length, map, slice_get, bytes_eq, Option, None, Some, IfSome, Result, Ok, Err, IfOk, IfErr}
+use Rattle.std.specs.Prelude.{◌≡◌, ℕ, ◌<◌, true, List, [], ◌∷◌, ◌++◌, length, map, slice_get, bytes_eq, Option, None, Some, IfSome, Result, Ok, Err, IfOk, IfErr}
 use Rattle.fixed_interval.specs.Interval.{Interval}
 use Rattle.covariance.specs.Gradients.{Spans, Gradient, found_at}
 use Rattle.covariance.specs.Groups.{Group, AreRegular}
 use Rattle.covariance.specs.Renaming.{renamed_group}
 use Rattle.eff_dof.specs.GroupParts.{HaveDegrees}
+use Rattle.budget_table.specs.declared.part.GroupPart.{GroupPart}
 use Rattle.sheet_rows.specs.Rows.{Sheet}
 use Rattle.sheet_rows.specs.Sheets.{IsStanding}
 use Rattle.value_cache.specs.Quantities.{is_there}
@@ -18,7 +19,7 @@ use Rattle.answers.specs.declared.reply.Answer.TheVariants.{ValueFault, LawOverf
 use Rattle.sheet_model.specs.Quantities.{quantities}
 use Rattle.sheet_model.specs.Groups.{groups}
 use Rattle.sheet_model.specs.Numbering.{number_among, AreAllKept}
-use Rattle.edit_session.specs.Replies.{Stop, Faulted, OutOfRange, Found, value_in, answer_of_one, answer_of_two}
+use Rattle.edit_session.specs.Replies.{Stop, Faulted, OutOfRange, Found, and_then, part_by, value_in, answer_of_one, answer_of_two}
 use Rattle.edit_session.specs.declared.stop.Stop.{Stop as CodeStop}
 use Rattle.edit_session.specs.declared.stop.Stop.TheVariants.{Value as CodeFault, Law as CodeOverflow, OutOfMemory as NoMemory}
 use Rattle.edit_session.specs.declared.asked.Asked.{Asked}
@@ -46,6 +47,21 @@ StopsAt stop found = IfSome (stop_of stop) (λ s. found ≡ Err s)
 abbrev pub Finds : {A : Type 0} → Result A CodeStop → Found A → Type 0
 Finds (Ok x) found = found ≡ Ok x
 Finds (Err stop) found = StopsAt stop found
+
+-- what is found goes behind what there is
+abbrev pub goes_on : {A : Type 0} → List A → Found (List A) → Found (List A)
+goes_on xs found = and_then found (λ ys. Ok (xs ++ ys))
+
+-- the code puts what is defined at the end of a list, stops where that does, or is out of memory
+abbrev pub AddsTo : {A : Type 0} → Result Unit CodeStop → List A → List A → Found (List A) → Type 0
+AddsTo (Ok done) old new found = goes_on old found ≡ Ok new
+AddsTo (Err stop) old new found = StopsAt stop found
+
+-- the groups of a budget by numbers, under the names of their rows
+abbrev pub numbered_parts : Spans ℕ → List (List ℕ) → List (Group ℕ) → Found (List GroupPart)
+numbered_parts dy [] gs = Ok []
+numbered_parts dy (n ∷ ns) [] = Ok []
+numbered_parts dy (n ∷ ns) (g ∷ gs) = and_then (part_by dy n g) (λ ys. and_then (numbered_parts dy ns gs) (λ zs. Ok (ys ++ zs)))
 
 -- ---- the fault in the place of a gradient
 -- its row is that of a quantity of one of these names

@@ -1,7 +1,8 @@
 -- The reply of a sheet to a query. Which refusal, fault or overflow stands in the place of an answer, where several might,
 -- is this project's own rule.
-use Rattle.std.specs.Prelude.{ℕ, Bool, if◌then◌else◌, List, Option, None, Some, Result, Ok, Err, bytes_eq}
+use Rattle.std.specs.Prelude.{ℕ, ◌==◌, Bool, if◌then◌else◌, is_some, List, [], ◌∷◌, ◌++◌, Option, None, Some, option_map, Result, Ok, Err, bytes_eq}
 use Rattle.std.specs.Option.{ok_or}
+use Rattle.exact_law.specs.WrittenRule.{Decision as ExactDecision, Stated, Undecided as UndecidedAt, Pass as ExactPass, ConditionalPass as ExactConditionalPass, ConditionalFail as ExactConditionalFail, Fail as ExactFail}
 use Rattle.fixed_interval.specs.Interval.{Interval}
 use Rattle.fixed_interval.specs.declared.faults.ArithFault.{ArithFault}
 use Rattle.fixed_interval.specs.declared.faults.Overflow.{Overflow}
@@ -12,28 +13,40 @@ use Rattle.table_g2.specs.Factors.{factor_span}
 use Rattle.table_g2.specs.Said.{said}
 use Rattle.table_g2.specs.declared.known.Level.{Level}
 use Rattle.table_g2.specs.declared.known.Nu.{Nu}
+use Rattle.guard_band.specs.Statements.{decision_over}
+use Rattle.guard_band.specs.declared.rule.Condition.{Condition}
+use Rattle.guard_band.specs.declared.rule.Condition.TheVariants.{Guarded, Inside, Near}
+use Rattle.guard_band.specs.declared.rule.Rule.{Rule}
+use Rattle.guard_band.specs.declared.rule.Said.{Said as SaidOfRule}
+use Rattle.guard_band.specs.declared.rule.Said.TheVariants.{Pass, ConditionalPass, ConditionalFail, Fail, Undecided}
 use Rattle.sheet_rows.specs.Rows.{Sheet}
-use Rattle.sheet_rows.specs.Sheets.{has_quantity, has_input}
+use Rattle.sheet_rows.specs.Sheets.{has_quantity, has_input, has_rule, rule_of}
 use Rattle.value_cache.specs.Evaluations.{evaluation_of}
 use Rattle.value_cache.specs.declared.evaluation.Evaluation.{Evaluation}
 use Rattle.value_cache.specs.declared.evaluation.Evaluation.TheVariants.{Enclosed, Fault}
 use Rattle.covariance.specs.Gradients.{Spans, sensitivity}
-use Rattle.covariance.specs.Variances.{combined_variance_span, combined_covariance_span}
+use Rattle.covariance.specs.Groups.{Group}
+use Rattle.covariance.specs.Variances.{group_variance_span, meets, combined_variance_span, combined_covariance_span}
 use Rattle.adjoint_pass.specs.Sensitivities.{has_gradient, gradient_of}
 use Rattle.eff_dof.specs.GroupParts.{known_degrees_of}
+use Rattle.budget_table.specs.Budgets.{budget_lines}
+use Rattle.budget_table.specs.declared.part.BudgetInput.{BudgetInput}
+use Rattle.budget_table.specs.declared.part.GroupPart.{GroupPart}
 use Rattle.sheet_model.specs.Quantities.{quantities}
 use Rattle.sheet_model.specs.Groups.{groups}
+use Rattle.sheet_model.specs.Budgets.{NamedGroup, variances, named_groups}
+use Rattle.sheet_model.specs.declared.variances.InputVariance.{InputVariance}
 use Rattle.answers.specs.declared.command.Query.{Query}
-use Rattle.answers.specs.declared.command.Query.TheVariants.{Value as AskValue, Variance as AskVariance, Covariance as AskCovariance, Correlation as AskCorrelation, Sensitivity as AskSensitivity, Degrees as AskDegrees, Report as AskReport, Expanded as AskExpanded, Dump as AskDump}
+use Rattle.answers.specs.declared.command.Query.TheVariants.{Value as AskValue, Variance as AskVariance, Covariance as AskCovariance, Correlation as AskCorrelation, Sensitivity as AskSensitivity, Degrees as AskDegrees, Report as AskReport, Expanded as AskExpanded, Decide as AskDecide, Budget as AskBudget, Dump as AskDump}
 use Rattle.answers.specs.declared.fault.AskFault.TheVariants.{NoSuchResult}
 use Rattle.answers.specs.declared.reply.Answer.{Answer}
-use Rattle.answers.specs.declared.reply.Answer.TheVariants.{Value, Variance, Covariance, Correlation, Sensitivity, Degrees, Report, Expanded, Dump, ValueFault, LawOverflow}
+use Rattle.answers.specs.declared.reply.Answer.TheVariants.{Value, Variance, Covariance, Correlation, Sensitivity, Degrees, Report, Expanded, Decision, Budget, Dump, ValueFault, LawOverflow}
 use Rattle.answers.specs.declared.reply.Reply.{Reply}
 use Rattle.answers.specs.declared.reply.Reply.TheVariants.{Ask, Said}
 
 -- ---- what is found, or what stands in its place
 pub data Stop : Type 0 where
-  -- no quantity has this name
+  -- no quantity has this name, or no rule, where one is asked for
   Unknown : List ℕ → Stop
   -- the quantity has no span: this fault arose in the row of this name
   Faulted : ArithFault → List ℕ → Stop
@@ -51,6 +64,11 @@ and_then (Err stop) next = Err stop
 abbrev pub in_range : {A : Type 0} → Result A Overflow → Found A
 in_range (Ok x) = Ok x
 in_range (Err fault) = Err OutOfRange
+
+-- what is found of each is put together
+abbrev pub all_found : {A B : Type 0} → (A → Found (List B)) → List A → Found (List B)
+all_found f [] = Ok []
+all_found f (x ∷ xs) = and_then (f x) (λ ys. and_then (all_found f xs) (λ zs. Ok (ys ++ zs)))
 
 -- ---- what is found of a sheet
 abbrev pub value_by : List ℕ → Option (Evaluation (List ℕ)) → Found Interval
@@ -83,6 +101,27 @@ correlation_in sheet dy dz =
 abbrev pub degrees_in : Sheet → Spans (List ℕ) → Found Nu
 degrees_in sheet dy = in_range (known_degrees_of dy (groups sheet))
 
+-- the rule of a tolerance. Where its name is that of one, it has a rule
+abbrev pub rule_by : List ℕ → Option Rule → Found Rule
+rule_by t None = Err (Unknown t)
+rule_by t (Some rule) = Ok rule
+
+-- the answer for what is decided: the condition that is not settled is named
+abbrev pub condition_at : ℕ → Condition
+condition_at n = if n == 1 then Guarded else (if n == 2 then Inside else Near)
+
+abbrev pub said_of : ExactDecision → SaidOfRule
+said_of (Stated ExactPass) = Pass
+said_of (Stated ExactConditionalPass) = ConditionalPass
+said_of (Stated ExactConditionalFail) = ConditionalFail
+said_of (Stated ExactFail) = Fail
+said_of (UndecidedAt n) = Undecided (condition_at n)
+
+-- the statement of conformity by the rule (ILAC-G8:09/2019, 4.2.2, 4.2.3), from the spans of the value, of the variance and
+-- of the factor
+abbrev pub statement_by : Rule → Interval → Interval → Interval → Found SaidOfRule
+statement_by rule value v k = in_range (ok_or (option_map said_of (decision_over rule value v k)) (record {}))
+
 -- ---- answers
 -- of one quantity, by the span of its value and its sensitivities
 abbrev pub answer_of_one : Sheet → List ℕ → (Interval → Spans (List ℕ) → Found Answer) → Found Answer
@@ -103,7 +142,37 @@ abbrev pub expanded_in : Sheet → List ℕ → Level → Interval → Spans (Li
 expanded_in sheet y level value dy =
     and_then (degrees_in sheet dy) (λ nu. and_then (variance_in sheet dy) (λ v. expanded_by y value v (factor_span nu level)))
 
--- the answer of a sheet that has the quantities of the query
+-- with a guard band of so many expanded uncertainties (6.2.1)
+abbrev pub decided_in : Sheet → List ℕ → List ℕ → Level → Rule → Interval → Spans (List ℕ) → Found Answer
+decided_in sheet y t level rule value dy =
+    and_then (degrees_in sheet dy) (λ nu. and_then (variance_in sheet dy) (λ v.
+    and_then (statement_by rule value v (factor_span nu level)) (λ said. Ok (Decision y t said))))
+
+-- the budget of a quantity with these sensitivities (5.1.3). An input is there where the quantity depends on it
+abbrev pub input_in : Sheet → Spans (List ℕ) → InputVariance → Found (List BudgetInput)
+input_in sheet dy i =
+    if is_some (dy i.name)
+    then and_then (value_in sheet i.name) (λ value. and_then (in_range (ok_or i.variance (record {})))
+    (λ v. Ok (record { name = i.name; value = value; variance = v; sens = sensitivity dy i.name } ∷ [])))
+    else Ok []
+
+abbrev pub inputs_in : Sheet → Spans (List ℕ) → Found (List BudgetInput)
+inputs_in sheet dy = all_found (input_in sheet dy) (variances sheet)
+
+-- a group is there where it depends on a member of the group
+abbrev pub part_by : {K : Type 0} → Spans K → List ℕ → Group K → Found (List GroupPart)
+part_by dy name g =
+    if meets dy g then and_then (in_range (ok_or (group_variance_span dy g) (record {}))) (λ v. Ok (record { name = name; variance = v } ∷ [])) else Ok []
+
+abbrev pub parts_in : Sheet → Spans (List ℕ) → Found (List GroupPart)
+parts_in sheet dy = all_found (λ (g : NamedGroup). part_by dy g.name g.group) (named_groups sheet)
+
+abbrev pub budget_in : Sheet → List ℕ → Spans (List ℕ) → Found Answer
+budget_in sheet y dy =
+    and_then (variance_in sheet dy) (λ v. and_then (inputs_in sheet dy) (λ inputs. and_then (parts_in sheet dy) (λ parts.
+    and_then (in_range (ok_or (budget_lines inputs parts) (record {}))) (λ lines. Ok (Budget lines y v)))))
+
+-- the answer of a sheet that has the quantities, and the rule, of the query
 abbrev pub answer_in : Sheet → Query → Found Answer
 answer_in sheet (AskValue y) = and_then (value_in sheet y) (λ value. Ok (Value y value))
 answer_in sheet (AskVariance y) = answer_of_one sheet y (λ value dy. and_then (variance_in sheet dy) (λ v. Ok (Variance y v)))
@@ -113,6 +182,9 @@ answer_in sheet (AskSensitivity y x) = answer_of_one sheet y (λ value dy. Ok (S
 answer_in sheet (AskDegrees y) = answer_of_one sheet y (λ value dy. and_then (degrees_in sheet dy) (λ nu. Ok (Degrees y (said nu))))
 answer_in sheet (AskReport y) = answer_of_one sheet y (λ value dy. and_then (variance_in sheet dy) (λ v. Ok (Report y (reported_of value v))))
 answer_in sheet (AskExpanded y level) = answer_of_one sheet y (λ value dy. expanded_in sheet y level value dy)
+answer_in sheet (AskDecide y t level) =
+    and_then (rule_by t (rule_of sheet t)) (λ rule. answer_of_one sheet y (λ value dy. decided_in sheet y t level rule value dy))
+answer_in sheet (AskBudget y) = answer_of_one sheet y (λ value dy. budget_in sheet y dy)
 answer_in sheet AskDump = Ok (Dump sheet.rows)
 
 -- ---- names
@@ -129,6 +201,8 @@ unknown_result sheet (AskSensitivity y x) = unless_there (has_quantity sheet y) 
 unknown_result sheet (AskDegrees y) = unless_there (has_quantity sheet y) y None
 unknown_result sheet (AskReport y) = unless_there (has_quantity sheet y) y None
 unknown_result sheet (AskExpanded y level) = unless_there (has_quantity sheet y) y None
+unknown_result sheet (AskDecide y t level) = unless_there (has_quantity sheet y) y (unless_there (has_rule sheet t) t None)
+unknown_result sheet (AskBudget y) = unless_there (has_quantity sheet y) y None
 unknown_result sheet AskDump = None
 
 -- ---- replies

@@ -1,6 +1,6 @@
 ghost use Rattle.std.specs.Prelude.{◌≡◌, true, None, IfOk, OnOk, Option};
 ghost use Rattle.sheet_rows.specs.Regular.{AreRegular};
-ghost use Rattle.sheet_rows.specs.Sheets.{has_quantity, has_input};
+ghost use Rattle.sheet_rows.specs.Sheets.{has_quantity, has_input, has_rule};
 ghost use Rattle.answers.specs.declared.command.Query.TheVariants.{Value as AskValue, Sensitivity as AskSensitivity};
 ghost use Rattle.answers.specs.Replies.{IsRegularAnswer};
 ghost use Rattle.answers.specs.declared.reply.Reply.{Reply};
@@ -10,6 +10,8 @@ ghost use Rattle.edit_session.specs.Calls.{IsAskReply, RepliesWith};
 ghost use Rattle.edit_session.specs.Asking.{Finds};
 
 use crate::asked::Asked;
+use crate::budget::budget_answer;
+use crate::statement::decide_answer;
 use crate::stop::Stop;
 use crate::uncertainty::{
     correlation_answer, covariance_answer, degrees_answer, expanded_answer, report_answer,
@@ -28,8 +30,8 @@ use std::sync::ledger::Ledger;
 ///
 /// # Errors
 ///
-/// [`AskFault::NoSuchResult`] exactly where the query names no quantity of the sheet, or no input where it asks
-/// for one, with the first such name; or out of memory.
+/// [`AskFault::NoSuchResult`] exactly where the query names no quantity of the sheet, or no input or tolerance where it
+/// asks for one, with the first such name; or out of memory.
 pub(crate) fn ask_sheet<L: Ledger>(
     alloc: Global,
     sheet: &Sheet,
@@ -64,6 +66,8 @@ fn unknown_result(sheet: &Sheet, query: &Query) -> Option<Name>
         Query::Degrees(y) => unknown_quantity(sheet, y),
         Query::Report(y) => unknown_quantity(sheet, y),
         Query::Expanded(y, _) => unknown_quantity(sheet, y),
+        Query::Decide(y, t, _) => unknown_or_no_rule(sheet, y, t),
+        Query::Budget(y) => unknown_quantity(sheet, y),
         Query::Dump => None,
     }
 }
@@ -99,6 +103,19 @@ fn unknown_or_no_input(sheet: &Sheet, y: &Name, x: &Name) -> Option<Name>
     Some(*x)
 }
 
+// The second name is to be that of a tolerance.
+fn unknown_or_no_rule(sheet: &Sheet, y: &Name, t: &Name) -> Option<Name>
+    ensures { result ≡ unless_there (has_quantity sheet.now y.now) y.now (unless_there (has_rule sheet.now t.now) t.now None) }
+{
+    if !sheet.has_quantity(y) {
+        return Some(*y);
+    }
+    if sheet.rule(t).is_some() {
+        return None;
+    }
+    Some(*t)
+}
+
 // The answer to a query whose names are those of results.
 fn answer<L: Ledger>(
     alloc: Global,
@@ -118,6 +135,8 @@ fn answer<L: Ledger>(
         Query::Degrees(y) => degrees_answer(alloc, sheet, *y, steps),
         Query::Report(y) => report_answer(alloc, sheet, *y, steps),
         Query::Expanded(y, level) => expanded_answer(alloc, sheet, *y, *level, steps),
+        Query::Decide(y, t, level) => decide_answer(alloc, sheet, *y, *t, *level, steps),
+        Query::Budget(y) => budget_answer(alloc, sheet, *y, steps),
         Query::Dump => {
             let rows = rows_of(alloc, sheet)?;
             Ok(Answer::Dump(rows))

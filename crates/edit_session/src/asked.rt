@@ -18,7 +18,7 @@ use value_cache::Evaluation;
 /// A sheet that is asked, with its quantities by numbers.
 #[derive(Drop)]
 pub(crate) struct Asked<'a> {
-    alloc: Global,
+    pub(crate) alloc: Global,
     pub(crate) sheet: &'a Sheet,
     pub(crate) numbered: Numbered,
 }

@@ -4,12 +4,15 @@
 
 mod answering;
 mod asked;
+mod budget;
+mod budget_parts;
 mod edits;
 mod law;
 #[cfg(test)]
 mod law_tests;
 mod laws;
 mod session;
+mod statement;
 mod stop;
 #[cfg(test)]
 mod tests;
