@@ -62,14 +62,14 @@ const REFUSED_LINES: [(&str, &str); 32] = [
     ("corr Q A 2 0", "syntax 10"),
     ("corr Q X x 1.01", "r_range"),
     ("corr Q X x -1.01", "r_range"),
-    ("tol Z upper 1 guard 1", "not_built"),
-    ("budget X", "not_built"),
+    ("tol Z upper 1 guard 3.001", "guard_range"),
+    ("tol Z lower 2 upper 1 guard 1", "limit_order"),
     ("expanded X 95.0", "level"),
     ("value X\r\r", "syntax 7"),
 ];
 
 // Commands that are refused on this sheet, and why.
-const REFUSED_COMMANDS: [(&str, &str); 33] = [
+const REFUSED_COMMANDS: [(&str, &str); 35] = [
     ("given X 1 exact", "duplicate X"),
     ("let x = Q", "duplicate x"),
     ("let Z = Q * R", "unknown Q"),
@@ -103,6 +103,8 @@ const REFUSED_COMMANDS: [(&str, &str); 33] = [
     ("cov Y y", "no_such_result y"),
     ("r y Y", "no_such_result y"),
     ("at M dof P", "no_such_result P"),
+    ("decide Y P 95", "no_such_result P"),
+    ("budget P", "no_such_result P"),
 ];
 
 // Tables, and commands by their names, that are refused on this sheet, and why.
@@ -322,6 +324,23 @@ fn answers_reports(rt: HostRuntime) -> Result<(), Fail> {
 }
 
 #[test]
+fn answers_decisions_and_budgets(rt: HostRuntime) -> Result<(), Fail> {
+    assert_replies! { rt;
+        b"table T\nV,I\n5.007,19.663\n4.994,19.639\n5.005,19.640\n4.990,19.685\n4.999,19.678\nend\nlet Z = 1000*T.V/T.I\ntol G upper 255 guard 1\ndecide Z G 95\ntol H upper 255 guard 1.5 four\ndecide Z H 95\ntol K upper 255 guard 1.125\ndecide Z K 95\n"
+            => b"ok\nok\nok\ndecide Z G Pass\nok\ndecide Z H ConditionalPass\nok\ndecide Z K Pass\n",
+        b"given X 1 exact\nlet Y = X/3\ntol T upper 0.333333333333333333 guard 0\ndecide Y T 95\nset given X 1 std 1\nset tol T upper 0.333333333333333333 guard 1 four\ndecide Y T 95\nset given X 3 std 3\nset tol T upper -0.96 guard 1 four\ndecide Y T 95\n"
+            => b"ok\nok\nok\ndecide Y T Undecided 1\nok\nok\ndecide Y T Undecided 2\nok\nok\ndecide Y T Undecided 3\n",
+        b"given S 100 exp 0.050 2 # certificate\nreadings D 0.012 0.010 0.011 0.013 0.009\ngiven R 0 rect 0.005\nlet M = S + D + R\ntol W lower 99.9 upper 100.1 guard 1\ndecide M W 95\n"
+            => b"ok\nok\nok\nok\nok\ndecide M W Pass\n",
+        b"given A 1 std 1\ngiven B 2 std 2\ncorr P A B 0.5\nlet S = 2*A\nbudget S\nlet D = A - B\nbudget D\n"
+            => b"ok\nok\nok\nok\ninput A value 1 1 var 1 1 sens 2 2 own 4 4\ngroup P 4 4\nbudget S 4 4\nok\ninput A value 1 1 var 1 1 sens 1 1 own 1 1\ninput B value 2 2 var 4 4 sens -1 -1 own 4 4\ngroup P 3 3\nbudget D 3 3\n",
+        b"given X 5 std 1\ntable Q\nV,I\n1,2\n3,6\nend\nlet R = Q.I - X\nbudget R\nbudget Q.V\nbudget Q\n"
+            => b"ok\nok\nok\ninput X value 5 5 var 1 1 sens -1 -1 own 1 1\ninput Q.I value 4 4 var 4 4 sens 1 1 own 4 4\ngroup X 1 1\ngroup Q 4 4\nbudget R 5 5\ninput Q.V value 2 2 var 1 1 sens 1 1 own 1 1\ngroup Q 1 1\nbudget Q.V 1 1\nrefused no_such_result Q\n",
+    }
+    Ok(())
+}
+
+#[test]
 fn answers_faults(rt: HostRuntime) -> Result<(), Fail> {
     assert_replies! { rt;
         b"let T = 999999999999999999 + 1\nvalue T\nlet U = 999999999999999998 + 1\nvalue U\n"
@@ -341,7 +360,7 @@ fn refuses_lines(rt: HostRuntime) -> Result<(), Fail> {
         b"value  X\nvalue X\r\r\n\x00\xff\n" => b"refused no_such_result X\nrefused syntax 7\nrefused syntax 1\n",
         b"given X 5. std 1\ngiven X 5 std -1\ngiven X\n" => b"refused not_number 9\nrefused negative\nrefused syntax 8\n",
         b"budget X\nvalue T.V\ntol T\nvalue\nvalue X Y\n"
-            => b"refused not_built\nrefused no_such_result T.V\nrefused not_built\nrefused syntax 6\nrefused syntax 9\n",
+            => b"refused no_such_result X\nrefused no_such_result T.V\nrefused syntax 6\nrefused syntax 6\nrefused syntax 9\n",
         b"undo\nset table T # end\r\nA # ohm\n \t\nundo\nend # A\n \tend\r\nredo\n"
             => b"refused nothing_to_undo\nrefused shape 1\nrefused nothing_to_redo\n",
         b"table T\nA\nundo\n" => b"refused open_table\n",

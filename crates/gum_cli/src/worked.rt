@@ -23,7 +23,8 @@ pub fn worked_refusals()
     ensures unknown_function { out (codes "let Y = sin(1)\n") ≡ codes "refused unknown_function 9\n" }
     ensures syntax { out (codes "given X\nvalue X\r\r\n") ≡ codes "refused syntax 8\nrefused syntax 7\n" }
     ensures not_number { out (codes "given X 5. std 1\n") ≡ codes "refused not_number 9\n" }
-    ensures not_built { out (codes "tol G upper 1 guard 1\nbudget X\n") ≡ codes "refused not_built\nrefused not_built\n" }
+    ensures rules { out (codes "tol G upper 1 guard 4\ntol G lower 2 upper 1 guard 4\ntol G lower 2 upper 1 guard 0.0005\ntol G lower 2 upper 1 guard -0\ntol G guard 1\ntol G upper 1 guard -1 four\ntol G upper 1 guard 3.001\ntol G upper 1 guard 3.000 four\ntol G upper 1\nbudget X\n")
+        ≡ codes "refused guard_range\nrefused guard_range\nrefused guard_range\nrefused limit_order\nrefused syntax 7\nrefused guard_range\nrefused guard_range\nok\nrefused syntax 14\nrefused no_such_result X\n" }
     ensures block { out (codes "set table T\r\nA # ohm\nundo\n end\r\nundo\n") ≡ codes "refused shape 1\nrefused nothing_to_undo\n" }
     ensures open_table { out (codes "undo\ntable T\nA\nundo\n") ≡ codes "refused nothing_to_undo\nrefused open_table\n" }
     ensures early_block { early (codes "undo\ntable T\nA\nend") ≡ codes "refused nothing_to_undo\n" }
@@ -112,6 +113,45 @@ pub fn worked_reports()
         ≡ codes "ok\nok\nreport T undecided\nexpanded T undecided\n" }
     ensures levels { out (codes "given X 1 std 1\nexpanded X 95.0\nexpanded X\nexpanded X 95 1\nexpanded W 95\nexpanded X 99\n")
         ≡ codes "ok\nrefused level\nrefused syntax 11\nrefused syntax 15\nrefused no_such_result W\nexpanded X 1.0 U 2.6 k 2.576\n" }
+{}
+
+/// Statements of conformity (ILAC-G8:09/2019, 4.2.2, 4.2.3): on the voltages and currents of JCGM 100:2008, Table H.2, where
+/// the guard band is 1, 1.5 and 1.125 expanded uncertainties, and the rounded uncertainty of 0.66 would turn the last one; on a
+/// usual calibration; each statement of a rule with four outcomes, and both of one with two; a value on the limit; each
+/// condition that intervals do not settle; and the order of refusals and faults. Rules are set, undone and printed.
+pub fn worked_decisions()
+    ensures impedance { out (codes "table T\nV,I\n5.007,19.663\n4.994,19.639\n5.005,19.640\n4.990,19.685\n4.999,19.678\nend\nlet Z = 1000*T.V/T.I\ntol G upper 255 guard 1\ndecide Z G 95\ntol H upper 255 guard 1.5 four\ndecide Z H 95\ntol K upper 255 guard 1.125\ndecide Z K 95\n")
+        ≡ codes "ok\nok\nok\ndecide Z G Pass\nok\ndecide Z H ConditionalPass\nok\ndecide Z K Pass\n" }
+    ensures calibration { out (codes "given S 100 exp 0.050 2 # certificate\nreadings D 0.012 0.010 0.011 0.013 0.009\ngiven R 0 rect 0.005\nlet M = S + D + R\ntol W lower 99.9 upper 100.1 guard 1\ndecide M W 95\n")
+        ≡ codes "ok\nok\nok\nok\nok\ndecide M W Pass\n" }
+    ensures four_outcomes { out (codes "given Y 10 std 1\ntol A upper 12 guard 1 four\ntol B upper 11 guard 1 four\ntol C upper 9 guard 1 four\ntol D upper 8 guard 1 four\ndecide Y A 95\ndecide Y B 95\ndecide Y C 95\ndecide Y D 95\n")
+        ≡ codes "ok\nok\nok\nok\nok\ndecide Y A Pass\ndecide Y B ConditionalPass\ndecide Y C ConditionalFail\ndecide Y D Fail\n" }
+    ensures two_outcomes { out (codes "given Y 10 std 1\ntol A lower 9 upper 20 guard 1\ntol B lower 8 upper 12 guard 1\ndecide Y A 95\ndecide Y B 95\n")
+        ≡ codes "ok\nok\nok\ndecide Y A Fail\ndecide Y B Pass\n" }
+    ensures on_the_limit { out (codes "given Y 10 exact\ntol T upper 10 guard 0\ndecide Y T 95\n")
+        ≡ codes "ok\nok\ndecide Y T Pass\n" }
+    ensures unsettled { out (codes "given X 1 exact\nlet Y = X/3\ntol T upper 0.333333333333333333 guard 0\ndecide Y T 95\nset given X 1 std 1\nset tol T upper 0.333333333333333333 guard 1 four\ndecide Y T 95\nset given X 3 std 3\nset tol T upper -0.96 guard 1 four\ndecide Y T 95\n")
+        ≡ codes "ok\nok\nok\ndecide Y T Undecided 1\nok\nok\ndecide Y T Undecided 2\nok\nok\ndecide Y T Undecided 3\n" }
+    ensures faults { out (codes "given X 5 std 1\ndecide X T 95\ntol T upper 1 guard 1\ndecide W T 95\ndecide X X 95\nlet Z = 1/(X-5)\ndecide Z T 95\nat M decide X T 95\nset given X 1000000000 std 1000000000\ndecide X T 95\n")
+        ≡ codes "ok\nrefused no_such_result T\nok\nrefused no_such_result W\nrefused no_such_result X\nok\nfault zero_divisor Z\nrefused no_mark M\nok\nfault law_overflow\n" }
+    ensures rows { out (codes "tol T lower -1.50 upper 2 guard 0.500 four # ohm\nset tol T upper 2 guard 3\nundo\ndump\nremove T\ndump\n")
+        ≡ codes "ok\nok\nok\ntol T lower -1.5 upper 2 guard 0.5 four\nok\nok\nok\n" }
+{}
+
+/// Budgets (JCGM 100:2008, 5.1.3): of a quantity with one input, and of the input itself; of one without inputs; of a pair of
+/// correlated inputs of which one or both count; of a column of joint readings; and where the law leaves the range of numbers,
+/// or the value is a fault.
+pub fn worked_budgets()
+    ensures first { out (codes "given X 5 std 1\nlet Y = X + 2\nbudget Y\nbudget X\n")
+        ≡ codes "ok\nok\ninput X value 5 5 var 1 1 sens 1 1 own 1 1\ngroup X 1 1\nbudget Y 1 1\ninput X value 5 5 var 1 1 sens 1 1 own 1 1\ngroup X 1 1\nbudget X 1 1\n" }
+    ensures none { out (codes "let T = 1/2\nbudget T\n")
+        ≡ codes "ok\nbudget T 0 0\n" }
+    ensures pair { out (codes "given A 1 std 1\ngiven B 2 std 2\ncorr P A B 0.5\nlet S = 2*A\nbudget S\nlet D = A - B\nbudget D\n")
+        ≡ codes "ok\nok\nok\nok\ninput A value 1 1 var 1 1 sens 2 2 own 4 4\ngroup P 4 4\nbudget S 4 4\nok\ninput A value 1 1 var 1 1 sens 1 1 own 1 1\ninput B value 2 2 var 4 4 sens -1 -1 own 4 4\ngroup P 3 3\nbudget D 3 3\n" }
+    ensures table { out (codes "given X 5 std 1\ntable Q\nV,I\n1,2\n3,6\nend\nlet R = Q.I - X\nbudget R\nbudget Q.V\nbudget Q\n")
+        ≡ codes "ok\nok\nok\ninput X value 5 5 var 1 1 sens -1 -1 own 1 1\ninput Q.I value 4 4 var 4 4 sens 1 1 own 4 4\ngroup X 1 1\ngroup Q 4 4\nbudget R 5 5\ninput Q.V value 2 2 var 1 1 sens 1 1 own 1 1\ngroup Q 1 1\nbudget Q.V 1 1\nrefused no_such_result Q\n" }
+    ensures faults { out (codes "given X 1 std 1000000000\nlet Z = 1/(X-1)\nbudget X\nbudget Z\n")
+        ≡ codes "ok\nok\nfault law_overflow\nfault zero_divisor Z\n" }
 {}
 
 /// Commands that are refused, and the order of two reasons that both apply. The sheet stays as it was.

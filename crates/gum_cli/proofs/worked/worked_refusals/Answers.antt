@@ -36,9 +36,9 @@ pub returns-clause-not_number : goal.returns-clause-not_number
 unfolding digits opens_block ends_block line_read row_read reading_of parsed span_of evaluation_of outward quotient power_span holds_zero min_ℚ max_ℚ up down cut_off is_in_range value_of ◌+ℚ◌ ◌*ℚ◌ inv_ℚ neg_ℚ is_at_most_ℚ floor_ℚ floor is_at_most inverse ◌⊕◌ ◌⊗◌ fraction.negated /_rec₂ /_rec
 returns-clause-not_number c = refl
 
-pub returns-clause-not_built : goal.returns-clause-not_built
+pub returns-clause-rules : goal.returns-clause-rules
 unfolding digits opens_block ends_block line_read row_read reading_of parsed span_of evaluation_of outward quotient power_span holds_zero min_ℚ max_ℚ up down cut_off is_in_range value_of ◌+ℚ◌ ◌*ℚ◌ inv_ℚ neg_ℚ is_at_most_ℚ floor_ℚ floor is_at_most inverse ◌⊕◌ ◌⊗◌ fraction.negated /_rec₂ /_rec
-returns-clause-not_built c = refl
+returns-clause-rules c = refl
 
 pub returns-clause-negative : goal.returns-clause-negative
 unfolding digits opens_block ends_block line_read row_read reading_of parsed span_of evaluation_of outward quotient power_span holds_zero min_ℚ max_ℚ up down cut_off is_in_range value_of ◌+ℚ◌ ◌*ℚ◌ inv_ℚ neg_ℚ is_at_most_ℚ floor_ℚ floor is_at_most inverse ◌⊕◌ ◌⊗◌ fraction.negated /_rec₂ /_rec
