@@ -7,6 +7,7 @@ use crate::tests::{formula_row, letter, of_letter};
 use answers::{Answer, AskFault, Edit, Query};
 use decimal18::Dec;
 use fixed_interval::Steps;
+use guard_band::{Form, Rule, Said};
 use round_out::{CorrSaid, Reported};
 use sheet_rows::Row;
 use std::alloc::Global;
@@ -27,6 +28,9 @@ enum Ask {
     Report(u8),
     // At 95 percent.
     Expanded(u8),
+    // By the tolerance of this letter, at 95 percent.
+    Decide(u8, u8),
+    Budget(u8),
 }
 
 // What is answered.
@@ -40,6 +44,9 @@ enum Told {
     Rounded(i128, u8, i8),
     // The same, with the coefficient of the factor.
     WithFactor(i128, u8, i8, i64),
+    Said(Said),
+    // How many lines a budget has, and its variance.
+    Lines(usize, i64),
     // A fault in the row of this letter.
     Fault(u8),
     LawOverflow,
@@ -57,12 +64,16 @@ const SHARED: [(Ask, Told); 5] = [
 ];
 
 // Of S = A + B, where A has the standard uncertainty 1 with 5 degrees of freedom, and B 2 with 10: the variance is 5, the
-// degrees are 13.88.., and the factor for 13 is 2.16.
-const SUM: [(Ask, Told); 4] = [
+// degrees are 13.88.., and the factor for 13 is 2.16. The expanded uncertainty is 4.83, and the estimate 2 is inside the limit
+// 4 of T, and outside the limit 1 of U, by less than that.
+const SUM: [(Ask, Told); 7] = [
     (Ask::Variance(b'S'), Told::Point(5)),
     (Ask::Degrees(b'S'), Told::Degrees(13)),
     (Ask::Report(b'S'), Told::Rounded(20, 22, -1)),
     (Ask::Expanded(b'S'), Told::WithFactor(20, 48, -1, 216)),
+    (Ask::Decide(b'S', b'T'), Told::Said(Said::ConditionalPass)),
+    (Ask::Decide(b'S', b'U'), Told::Said(Said::ConditionalFail)),
+    (Ask::Budget(b'S'), Told::Lines(4, 5)),
 ];
 
 // Of Y = 1/(5-X) and Z = 1/(X-5) with X = 5, and of G = 10^9 with an uncertainty as great: which fault stands first.
@@ -90,6 +101,21 @@ fn measured(byte: u8, estimate: i64, u: i64, dof: Dof) -> Option<Row>
     })
 }
 
+// The row of a tolerance with this upper limit and a guard band of one expanded uncertainty.
+fn tolerance(byte: u8, upper: i32) -> Option<Row>
+    ensures { IfSome result (λ row. IsRegular (row_of row)) }
+{
+    Some(Row::Tolerance {
+        name: letter(byte)?,
+        rule: Rule {
+            lower: None,
+            upper: Some(Dec::whole(upper)),
+            guard: Dec::whole(1),
+            form: Form::Four,
+        },
+    })
+}
+
 fn query_of(ask: Ask) -> Option<Query> {
     let query = match ask {
         Ask::Variance(y) => Query::Variance(letter(y)?),
@@ -98,6 +124,8 @@ fn query_of(ask: Ask) -> Option<Query> {
         Ask::Degrees(y) => Query::Degrees(letter(y)?),
         Ask::Report(y) => Query::Report(letter(y)?),
         Ask::Expanded(y) => Query::Expanded(letter(y)?, Level::L95),
+        Ask::Decide(y, t) => Query::Decide(letter(y)?, letter(t)?, Level::L95),
+        Ask::Budget(y) => Query::Budget(letter(y)?),
     };
     Some(query)
 }
@@ -117,6 +145,10 @@ fn of_answer(answer: Result<Answer, AskFault>) -> Told {
         }
         Ok(Answer::Expanded(_, Reported::Rounded { estimate, m, e }, k)) => {
             Told::WithFactor(*estimate, *m, *e, k.coefficient())
+        }
+        Ok(Answer::Decision(_, _, said)) => Told::Said(*said),
+        Ok(Answer::Budget(lines, _, variance)) => {
+            Told::Lines(lines.as_slice().len(), variance.lo().coefficient())
         }
         Ok(Answer::ValueFault(_, row)) => Told::Fault(of_letter(row)),
         Ok(Answer::LawOverflow) => Told::LawOverflow,
@@ -168,6 +200,8 @@ fn sum(alloc: Global) -> Result<Session, Fail> {
         measured(b'B', 1, 2, Dof::Whole(10)).ok_or("no row")?,
     )?;
     add(&mut session, formula_row(alloc, b'S', b"A+B")?)?;
+    add(&mut session, tolerance(b'T', 4).ok_or("no row")?)?;
+    add(&mut session, tolerance(b'U', 1).ok_or("no row")?)?;
     Ok(session)
 }
 
