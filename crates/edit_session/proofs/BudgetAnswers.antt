@@ -1,8 +1,8 @@
 -- The answer of a budget goes on from what the law of propagation needs of a quantity.
-use Rattle.std.specs.Prelude.{◌≡◌, ℕ, bytes_eq, List, Result, Ok, Err}
+use Rattle.std.specs.Prelude.{◌≡◌, ℕ, List, Result, Ok}
 use Rattle.std.specs.Option.{ok_or}
 use Rattle.std.specs.Result.{IsErrAnd}
-use Rattle.std.proofs.Common.{sym, ◌∙◌, subst}
+use Rattle.std.proofs.Common.{◌∙◌, subst}
 use Rattle.fixed_interval.specs.Interval.{Interval}
 use Rattle.covariance.specs.Gradients.{Spans, Gradient}
 use Rattle.covariance.specs.Groups.{Group}

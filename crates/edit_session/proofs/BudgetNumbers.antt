@@ -1,5 +1,5 @@
 -- What the code finds of a budget by numbers is what the definitions say by names.
-use Rattle.std.specs.Prelude.{◌≡◌, ℕ, ◌+◌, ◌<◌, ◌≤◌, Bool, true, false, if◌then◌else◌, is_some, bytes_eq, List, [], ◌∷◌, ◌++◌, map, drop, length, get_or, All, Option, Some, None, Result, Ok, Err, refl}
+use Rattle.std.specs.Prelude.{◌≡◌, ℕ, ◌+◌, ◌<◌, ◌≤◌, Bool, true, false, if◌then◌else◌, is_some, List, [], ◌∷◌, ◌++◌, map, drop, length, get_or, All, Result, Ok, Err, refl}
 use Rattle.std.specs.List.{AllByRecursion}
 use Rattle.std.specs.Result.{IsErrAnd}
 use Rattle.std.specs.Option.{ok_or}
@@ -13,7 +13,6 @@ use Rattle.covariance.specs.Groups.{Group, IsRegular as GroupIsRegular, AreRegul
 use Rattle.covariance.specs.declared.group.Group.{Group as CodeGroup}
 use Rattle.covariance.specs.Models.{EachMember}
 use Rattle.covariance.specs.Renaming.{renamed_group}
-use Rattle.covariance.specs.Variances.{group_variance_span, meets}
 use Rattle.covariance.proofs.Renamed.{group_variance-renamed, meets-renamed}
 use Rattle.budget_table.specs.declared.part.BudgetInput.{BudgetInput}
 use Rattle.budget_table.specs.declared.part.GroupPart.{GroupPart}
@@ -22,7 +21,6 @@ use Rattle.sheet_rows.specs.Sheets.{has_quantity, IsStanding}
 use Rattle.sheet_model.specs.Quantities.{quantities}
 use Rattle.sheet_model.specs.Numbering.{number_in, number_among, AreAllKept}
 use Rattle.sheet_model.specs.Budgets.{NamedGroup, variances, named_groups, group_names}
-use Rattle.sheet_model.specs.Groups.{groups}
 use Rattle.sheet_model.specs.declared.numbering.Numbered.{Numbered}
 use Rattle.sheet_model.specs.declared.variances.InputVariance.{InputVariance}
 use Rattle.sheet_model.proofs.Budgeted.{groups_are_named}
@@ -33,7 +31,7 @@ use Rattle.edit_session.specs.Replies.{Found, and_then, in_range, all_found, val
 use Rattle.edit_session.specs.Asking.{StopsAt, Finds, AddsTo, goes_on, numbered_parts, IsGradientIn, AreGroupsIn}
 use Rattle.edit_session.specs.declared.stop.Stop.{Stop as CodeStop}
 use Rattle.edit_session.proofs.Budgeting.{inputs_quantities}
-use Rattle.edit_session.proofs.Found.{finds_on, stops_on, stops_then}
+use Rattle.edit_session.proofs.Found.{stops_on, stops_then}
 use Rattle.edit_session.proofs.LawNumbers.{members_agree}
 use Rattle.edit_session.proofs.Needed.{gradient_by}
 

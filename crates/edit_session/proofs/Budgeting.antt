@@ -1,15 +1,13 @@
 -- Budgets: what the lines say is so of the exact law, and their names are known.
-use Rattle.std.specs.Prelude.{◌≡◌, ℕ, ◌<◌, Bool, true, false, if◌then◌else◌, is_some, bytes_eq, List, [], ◌∷◌, ◌++◌, map, length, All, Contains, get_or, Option, Some, None, IfSome, Result, Ok, Err, IfOk, refl}
+use Rattle.std.specs.Prelude.{◌≡◌, ℕ, Bool, true, false, if◌then◌else◌, is_some, bytes_eq, List, [], ◌∷◌, ◌++◌, map, All, Contains, get_or, Option, Some, None, IfSome, Ok, IfOk}
 use Rattle.std.specs.List.{AllByRecursion}
 use Rattle.std.specs.Option.{ok_or, option_map}
-use Rattle.std.proofs.Common.{sym, ◌∙◌, ap, subst}
+use Rattle.std.proofs.Common.{sym, ◌∙◌, subst}
 use Rattle.std.proofs.lemmas.List.{get_or_default}
-use Rattle.std.proofs.lemmas.List.Elements.{All-nil, All-cons, All-append, All-from_recursion, recursion_from_All}
-use Rattle.exact_law.specs.Model.{exact_slope}
+use Rattle.std.proofs.lemmas.List.Elements.{All-nil, All-cons, All-append, recursion_from_All}
 use Rattle.exact_law.specs.Law.{part_of}
 use Rattle.fixed_interval.specs.Interval.{Interval, Encloses}
 use Rattle.fixed_interval.specs.Sums.{Holds}
-use Rattle.fixed_interval.specs.declared.faults.Overflow.{Overflow}
 use Rattle.covariance.specs.Gradients.{Spans, sensitivity}
 use Rattle.covariance.specs.Groups.{AreRegular as GroupsAreRegular, exact_group}
 use Rattle.covariance.specs.Models.{IsInput, EachMember}
@@ -34,8 +32,8 @@ use Rattle.sheet_model.proofs.Inputs.{sheet_input, input_there}
 use Rattle.sheet_model.proofs.Names.{there-is_quantity}
 use Rattle.sheet_model.proofs.SheetGroups.{sheet_groups}
 use Rattle.edit_session.specs.Replies.{Found, and_then, in_range, all_found, value_in, input_in, inputs_in, part_by, parts_in}
-use Rattle.edit_session.specs.Sound.{model_in, exact_value_in, slope_in, input_variance_in, HasPartIn, IsLineIn}
-use Rattle.edit_session.proofs.Found.{if_then, if_some, of_ok, IsKnown, known_then, known_range}
+use Rattle.edit_session.specs.Sound.{model_in, exact_value_in, slope_in, input_variance_in, IsLineIn}
+use Rattle.edit_session.proofs.Found.{if_then, of_ok, IsKnown, known_then, known_range}
 use Rattle.edit_session.proofs.Lawful.{gradient_by, HasSlopes, value_holds}
 
 -- ---- what holds of all that is found

@@ -1,9 +1,8 @@
 -- Statements of conformity: what spans decide is what is said, and it is asked where it means something.
-use Rattle.std.specs.Prelude.{◌≡◌, ℕ, pos, List, Option, Some, None, option_map, Result, Ok, Err, refl}
+use Rattle.std.specs.Prelude.{◌≡◌, ℕ, pos, List, Option, Some, None, option_map, Ok, Err, refl}
 use Rattle.std.specs.Option.{ok_or}
-use Rattle.std.proofs.Common.{sym, ◌∙◌, ap, subst, arith}
+use Rattle.std.proofs.Common.{sym, ◌∙◌, ap, arith}
 use Rattle.std.proofs.lemmas.Int.{ints}
-use Rattle.std.proofs.lemmas.Option.{none-some}
 use Rattle.exact_fraction.specs.Number.{of_ℤ, ◌≤ℚ◌, ◌<ℚ◌}
 use Rattle.exact_fraction.specs.NumberLaws.{≤ℚ_refl, ≤ℚ_trans, ≤ℚ_same}
 use Rattle.exact_fraction.proofs.Strict.{<ℚ-≤ℚ}
@@ -25,7 +24,7 @@ use Rattle.guard_band.specs.declared.rule.Condition.TheVariants.{Guarded, Inside
 use Rattle.guard_band.specs.declared.rule.Rule.{Rule}
 use Rattle.guard_band.specs.declared.rule.Said.{Said}
 use Rattle.guard_band.specs.declared.rule.Said.TheVariants.{Pass, ConditionalPass, ConditionalFail, Fail, Undecided}
-use Rattle.edit_session.specs.Replies.{Stop, OutOfRange, Found, in_range, rule_by, said_of, statement_by}
+use Rattle.edit_session.specs.Replies.{OutOfRange, in_range, rule_by, said_of, statement_by}
 
 -- ---- factors are above 0
 infinite_above : (level : Level) → of_ℤ (pos 0) <ℚ value_of (factor_bound level InfiniteDegrees)

@@ -4,7 +4,7 @@ use Rattle.std.specs.Option.{ok_or}
 use Rattle.std.specs.Result.{IsErrAnd}
 use Rattle.std.proofs.Common.{sym, ◌∙◌, ap, subst}
 use Rattle.fixed_interval.specs.declared.faults.Overflow.{Overflow}
-use Rattle.edit_session.specs.Replies.{Stop, Unknown, Faulted, OutOfRange, Found, and_then, in_range}
+use Rattle.edit_session.specs.Replies.{Unknown, Faulted, OutOfRange, Found, and_then, in_range}
 use Rattle.edit_session.specs.Asking.{StopsAt, Finds}
 use Rattle.edit_session.specs.declared.stop.Stop.{Stop as CodeStop}
 use Rattle.edit_session.specs.declared.stop.Stop.TheVariants.{Value as CodeFault, Law as CodeOverflow, OutOfMemory as NoMemory}

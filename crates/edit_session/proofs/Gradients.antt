@@ -1,18 +1,17 @@
 -- What the code finds of values and sensitivities by numbers is what the definitions say by names.
-use Rattle.std.specs.Prelude.{◌≡◌, ◌↔◌, ℕ, ◌<◌, true, false, if◌then◌else◌, is_some, bytes_eq, nat_eq, List, [], length, slice_get, Option, Some, None, Result, Ok, Err, refl}
+use Rattle.std.specs.Prelude.{◌≡◌, ◌↔◌, ℕ, ◌<◌, true, false, if◌then◌else◌, is_some, bytes_eq, nat_eq, List, [], length, slice_get, Option, Some, Result, Ok, Err, refl}
 use Rattle.std.specs.List.{list_any}
 use Rattle.std.proofs.Common.{sym, ◌∙◌, ap, subst}
 use Rattle.std.proofs.lemmas.Bool.{true≢false}
 use Rattle.fixed_interval.specs.Interval.{Interval}
 use Rattle.fixed_interval.specs.declared.faults.ArithFault.{ArithFault}
-use Rattle.covariance.specs.Gradients.{Spans, Gradient, found_at}
+use Rattle.covariance.specs.Gradients.{Gradient, found_at}
 use Rattle.sheet_rows.specs.Rows.{Sheet}
 use Rattle.sheet_rows.specs.Sheets.{has_quantity, IsStanding}
 use Rattle.value_cache.specs.Quantities.{is_there}
 use Rattle.dep_graph.specs.Nodes.{has, ids_of}
 use Rattle.value_cache.specs.Evaluations.{evaluation_of, span_in}
 use Rattle.value_cache.specs.Evaluable.{AreInOrder}
-use Rattle.value_cache.specs.Slots.{bodies_of}
 use Rattle.value_cache.specs.declared.evaluation.Evaluation.{Evaluation}
 use Rattle.value_cache.specs.declared.evaluation.Evaluation.TheVariants.{Enclosed, Fault}
 use Rattle.adjoint_pass.specs.Sensitivities.{has_gradient, gradient_of}
@@ -26,8 +25,8 @@ use Rattle.sheet_model.specs.declared.numbering.Numbered.{Numbered}
 use Rattle.sheet_model.proofs.Formulas.{same_names}
 use Rattle.sheet_model.proofs.Names.{there-is_quantity}
 use Rattle.sheet_model.proofs.Walking.{quantities_in_order}
-use Rattle.sheet_model.proofs.KeptSheet.{kept_still, renamed, number_is, name_kept, id_there}
-use Rattle.edit_session.specs.Replies.{Faulted, OutOfRange, Found, and_then, value_by, value_in, gradient_in}
+use Rattle.sheet_model.proofs.KeptSheet.{renamed, number_is, name_kept, id_there}
+use Rattle.edit_session.specs.Replies.{Faulted, OutOfRange, and_then, value_by, value_in, gradient_in}
 use Rattle.edit_session.specs.Asking.{StopsAt, HasNumber, IsStopOf, IsGradientIn}
 use Rattle.edit_session.specs.declared.stop.Stop.{Stop as CodeStop}
 use Rattle.edit_session.proofs.Cells.{enclosed_cell, fault_within, faulted_cell, fault_named}

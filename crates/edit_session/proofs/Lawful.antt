@@ -1,10 +1,9 @@
 -- What is found of a sheet that stands is so of its exact law.
 use Rattle.std.specs.Prelude.{◌≡◌, ℕ, Bool, true, false, if◌then◌else◌, bytes_eq, List, Option, Some, None, Ok, Err, IfOk, pos, refl}
-use Rattle.std.proofs.Common.{sym, ◌∙◌, ap, subst}
+use Rattle.std.proofs.Common.{◌∙◌}
 use Rattle.exact_fraction.specs.Number.{of_ℤ, ◌≤ℚ◌}
 use Rattle.decimal18.specs.Bound.{value_of}
 use Rattle.fixed_interval.specs.Interval.{Interval, Encloses}
-use Rattle.fixed_interval.specs.declared.faults.ArithFault.{ArithFault}
 use Rattle.round_out.specs.Correlations.{IsTrueOf}
 use Rattle.round_out.specs.declared.coefficient.CorrSaid.{CorrSaid}
 use Rattle.round_out.proofs.Holding.{coefficient_holds}
@@ -32,7 +31,7 @@ use Rattle.sheet_model.proofs.Names.{there-is_quantity}
 use Rattle.sheet_model.proofs.Formulas.{same_names}
 use Rattle.sheet_model.proofs.Walking.{exponents_of_rows, quantities_in_order}
 use Rattle.sheet_model.proofs.SheetGroups.{sheet_groups}
-use Rattle.edit_session.specs.Replies.{Found, and_then, value_by, value_in, gradient_in, variance_in, covariance_in, correlation_in, degrees_in, answer_of_one, answer_of_two, OutOfRange}
+use Rattle.edit_session.specs.Replies.{Found, and_then, value_by, value_in, gradient_in, variance_in, covariance_in, correlation_in, degrees_in, OutOfRange}
 use Rattle.edit_session.specs.Sound.{model_in, law_in, exact_degrees_in}
 use Rattle.edit_session.proofs.Inputs.{names_apart}
 use Rattle.edit_session.proofs.Found.{if_then, if_in_range, if_some, of_ok}

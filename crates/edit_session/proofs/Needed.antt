@@ -8,7 +8,7 @@ use Rattle.round_out.specs.Searches.{correlation_of}
 use Rattle.fixed_interval.specs.Sums.{zero_span}
 use Rattle.sheet_rows.specs.Rows.{Sheet}
 use Rattle.value_cache.specs.Quantities.{is_there}
-use Rattle.adjoint_pass.specs.Sensitivities.{has_gradient, gradient_of}
+use Rattle.adjoint_pass.specs.Sensitivities.{gradient_of}
 use Rattle.answers.specs.declared.reply.Answer.{Answer}
 use Rattle.sheet_model.specs.Quantities.{quantities}
 use Rattle.sheet_model.specs.Numbering.{number_among}

@@ -14,7 +14,7 @@ use Rattle.round_out.proofs.Holding.{reported_holds, expanded_holds, factor_is}
 use Rattle.guard_band.specs.declared.rule.Rule.{Rule}
 use Rattle.guard_band.specs.declared.rule.Said.{Said as SaidOfRule}
 use Rattle.guard_band.proofs.Exact.{statement_is_exact}
-use Rattle.table_g2.specs.Factors.{column, factor_span}
+use Rattle.table_g2.specs.Factors.{factor_span}
 use Rattle.table_g2.specs.Said.{said}
 use Rattle.table_g2.specs.Known.{Allows, AreDegrees}
 use Rattle.table_g2.specs.declared.known.Level.{Level}
@@ -29,9 +29,8 @@ use Rattle.value_cache.specs.Evaluations.{evaluation_of}
 use Rattle.value_cache.specs.Model.{HasValueIn}
 use Rattle.value_cache.specs.declared.evaluation.Evaluation.{Evaluation}
 use Rattle.value_cache.specs.declared.evaluation.Evaluation.TheVariants.{Enclosed, Fault}
-use Rattle.covariance.specs.Gradients.{Spans, sensitivity}
-use Rattle.covariance.specs.Variances.{combined_variance_span, combined_covariance_span}
-use Rattle.adjoint_pass.specs.Sensitivities.{has_gradient, gradient_of}
+use Rattle.covariance.specs.Gradients.{Spans}
+use Rattle.adjoint_pass.specs.Sensitivities.{has_gradient}
 use Rattle.answers.specs.Commands.{Command, Change, Undo, Redo, Mark, Restore, Ask as AskPresent, AskAt}
 use Rattle.sheet_rows.specs.Regular.{AreRegular}
 use Rattle.answers.specs.Replies.{IsRegularAnswer}
@@ -41,13 +40,12 @@ use Rattle.answers.specs.declared.fault.AskFault.TheVariants.{NoSuchResult}
 use Rattle.answers.specs.declared.reply.Answer.{Answer}
 use Rattle.answers.specs.declared.reply.Answer.TheVariants.{Value, Variance, Covariance, Correlation, Sensitivity, Degrees, Report, Expanded, Decision, Budget, Dump, ValueFault, LawOverflow}
 use Rattle.answers.specs.declared.reply.Reply.{Reply}
-use Rattle.answers.specs.declared.reply.Reply.TheVariants.{Ask, Said}
+use Rattle.answers.specs.declared.reply.Reply.TheVariants.{Ask}
 use Rattle.sheet_model.specs.Quantities.{quantities}
-use Rattle.sheet_model.specs.Groups.{groups}
 use Rattle.sheet_model.proofs.Names.{there-is_quantity}
 use Rattle.sheet_model.proofs.Walking.{evaluable}
 use Rattle.sheet_model.proofs.Inputs.{sheet_input}
-use Rattle.edit_session.specs.Replies.{Stop, Unknown, Faulted, OutOfRange, Found, and_then, in_range, value_by, value_in, gradient_in, variance_in, covariance_in, correlation_in, degrees_in, answer_of_one, answer_of_two, expanded_by, expanded_in, rule_by, statement_by, decided_in, inputs_in, parts_in, budget_in, answer_in, unless_there, unknown_result, reply_of_stop, reply_of, reply_by, reply_to}
+use Rattle.edit_session.specs.Replies.{Unknown, Faulted, OutOfRange, Found, and_then, in_range, value_by, value_in, gradient_in, variance_in, covariance_in, correlation_in, degrees_in, answer_of_one, answer_of_two, expanded_in, rule_by, statement_by, decided_in, inputs_in, parts_in, budget_in, answer_in, unless_there, unknown_result, reply_of, reply_by, reply_to}
 use Rattle.edit_session.specs.Machine.{State, kept_as, step, reply_at}
 use Rattle.edit_session.specs.Sound.{IsFactor, HasExpandedIn, HasStatementIn, exact_value_in, factor_in, law_in, exact_degrees_in, IsSoundAnswer, IsSoundReply, asked, IsSoundOn}
 use Rattle.edit_session.specs.Standing.{IsStandingState}
@@ -55,7 +53,7 @@ use Rattle.edit_session.specs.Calls.{is_refusal}
 use Rattle.edit_session.proofs.Standing.{kept-standing}
 use Rattle.edit_session.proofs.Budgeting.{inputs_known, parts_known, budget_holds}
 use Rattle.edit_session.proofs.Deciding.{rule_found, decided_by}
-use Rattle.edit_session.proofs.Found.{if_then, if_in_range, of_ok, IsKnown, known_then, known_range}
+use Rattle.edit_session.proofs.Found.{if_then, of_ok, IsKnown, known_then, known_range}
 use Rattle.edit_session.proofs.Lawful.{gradient_by, HasSlopes, value_holds, one_holds, two_holds, IsVariance, variance_holds, covariance_holds, correlation_holds, degrees_hold}
 
 -- ---- names that are there

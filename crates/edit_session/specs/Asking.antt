@@ -1,5 +1,5 @@
 -- What the code finds of a sheet that is asked, by the numbers of quantities.
-use Rattle.std.specs.Prelude.{◌≡◌, ℕ, ◌<◌, true, List, [], ◌∷◌, ◌++◌, length, map, slice_get, bytes_eq, Option, None, Some, IfSome, Result, Ok, Err, IfOk, IfErr}
+use Rattle.std.specs.Prelude.{◌≡◌, ℕ, ◌<◌, true, List, [], ◌∷◌, ◌++◌, length, map, slice_get, bytes_eq, Option, None, Some, IfSome, Result, Ok, Err}
 use Rattle.fixed_interval.specs.Interval.{Interval}
 use Rattle.covariance.specs.Gradients.{Spans, Gradient, found_at}
 use Rattle.covariance.specs.Groups.{Group, AreRegular}

@@ -1,4 +1,4 @@
-use Rattle.std.proofs.Common.{◌≡◌, ◌<◌, map, length, sym, ◌∙◌, ap, subst}
+use Rattle.std.proofs.Common.{sym, ◌∙◌, ap, subst}
 use Rattle.adjoint_pass.specs.Sensitivities.{gradient_of}
 use Rattle.std.specs.Prelude.{bytes_eq}
 use Rattle.sheet_rows.specs.Rows.{sheet_of}

@@ -4,7 +4,7 @@ use Rattle.covariance.specs.Groups.{AreRegular, group_of}
 use Rattle.sheet_rows.specs.Rows.{sheet_of}
 use Rattle.sheet_model.specs.Budgets.{group_names}
 use Rattle.sheet_model.proofs.Walking.{left_next, none_left}
-use Rattle.edit_session.specs.Asking.{StopsAt, AreGroupsIn, goes_on, numbered_parts}
+use Rattle.edit_session.specs.Asking.{StopsAt, goes_on, numbered_parts}
 use Rattle.edit_session.proofs.BudgetNumbers.{finds_stop, parts_by_numbers, named_within, regular_at, parts_on, parts_stop, parts_end}
 use Rattle.edit_session.proofs.budget.parts_of.Goals as goal
 

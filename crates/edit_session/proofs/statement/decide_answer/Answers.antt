@@ -1,8 +1,7 @@
-use Rattle.std.proofs.Common.{◌≡◌, Some, sym, ◌∙◌, ap, subst}
+use Rattle.std.proofs.Common.{sym, ◌∙◌, subst}
 use Rattle.exact_fraction.specs.Number.{◌<ℚ◌, of_ℤ}
 use Rattle.std.specs.Prelude.{pos}
 use Rattle.decimal18.specs.Bound.{value_of}
-use Rattle.sheet_rows.specs.Sheets.{rule_of}
 use Rattle.sheet_rows.proofs.Rules.{rule_stands}
 use Rattle.edit_session.proofs.Deciding.{factor_above}
 use Rattle.edit_session.proofs.statement.decide_answer.Goals as goal

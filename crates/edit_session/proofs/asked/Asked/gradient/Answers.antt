@@ -1,7 +1,7 @@
-use Rattle.std.proofs.Common.{◌≡◌, sym, ◌∙◌, ap}
+use Rattle.std.proofs.Common.{sym, ◌∙◌, ap}
 use Rattle.value_cache.specs.Slots.{cells_of}
 use Rattle.sheet_model.specs.Quantities.{quantities}
-use Rattle.sheet_model.specs.Numbering.{number_in, AreAllKept}
+use Rattle.sheet_model.specs.Numbering.{number_in}
 use Rattle.sheet_model.proofs.KeptSheet.{kept_still, evaluation_still}
 use Rattle.edit_session.proofs.Gradients.{number_asked, id_asked, gradient_found, fault_numbered, gradient_stops}
 use Rattle.edit_session.proofs.asked.Asked.gradient.Goals as goal
