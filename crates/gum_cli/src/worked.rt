@@ -103,6 +103,10 @@ pub fn worked_reports()
         ≡ codes "ok\ndof R 10\nreport R 1.091 u 0.091\nexpanded R 1.09 U 0.20 k 2.23\n" }
     ensures degrees { out (codes "given A 1 std 1 dof 5\ngiven B 1 std 2 dof 10\nlet S = A + B\ndof S\ngiven G 10 std 1 rel 25\ndof G\ngiven X 1 exact\ndof X\ngiven Y 1 std 1\ndof Y\n")
         ≡ codes "ok\nok\nok\ndof S 13\nok\ndof G 8\nok\ndof X none\nok\ndof Y inf\n" }
+    ensures equal_degrees { out (codes "given A 1 std 1 dof 5\ngiven B 1 std 1 dof 5\nlet S = A + B\ndof S\n")
+        ≡ codes "ok\nok\nok\ndof S 10\n" }
+    ensures calibration { out (codes "given S 100 exp 0.050 2 # certificate\nreadings D 0.012 0.010 0.011 0.013 0.009\ngiven R 0 rect 0.005\nlet M = S + D + R\nreport M\ndof M\nexpanded M 95\n")
+        ≡ codes "ok\nok\nok\nok\nreport M 100.011 u 0.025\ndof M 6427915\nexpanded M 100.011 U 0.050 k 1.984\n" }
     ensures hundred { out (codes "given X 5 std 0.995\nreport X\nexpanded X 95.45\n")
         ≡ codes "ok\nreport X 5.0 u 1.0\nexpanded X 5.0 U 2.0 k 2\n" }
     ensures correlated { out (codes "given A 1 std 1\ngiven B 2 std 1\ncorr P A B -1\nlet S = A + B\nreport S\ndof S\nexpanded S 95\n")

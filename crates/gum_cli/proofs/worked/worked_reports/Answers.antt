@@ -64,3 +64,11 @@ returns-clause-unsettled c = refl
 pub returns-clause-levels : goal.returns-clause-levels
 unfolding row first_row later_rows infinite_row thousandths row_at row_of compare_ℚ reported_of expanded_of digits_of_span known_degrees_of known_degrees greatest_share is_zero_ℚ power ten_to scaled_square at_place csv_on_literals records_read power_span digits opens_block ends_block line_read block_read row_read table_read refusal reading_of parsed sensitivity_of sensitivity is_in_cone evaluation_of span_of partial_of group_variance_span group_covariance_span mean joint total below outward quotient holds_zero lesser greater min_ℚ max_ℚ up down cut_off is_in_range value_of ◌+ℚ◌ ◌*ℚ◌ inv_ℚ neg_ℚ is_at_most_ℚ floor_ℚ floor is_at_most inverse ◌⊕◌ ◌⊗◌ fraction.negated /_rec₂ /_rec
 returns-clause-levels c = refl
+
+pub returns-clause-equal_degrees : goal.returns-clause-equal_degrees
+unfolding row first_row later_rows infinite_row thousandths row_at row_of compare_ℚ reported_of expanded_of digits_of_span known_degrees_of known_degrees greatest_share is_zero_ℚ power ten_to scaled_square at_place csv_on_literals records_read power_span digits opens_block ends_block line_read block_read row_read table_read refusal reading_of parsed sensitivity_of sensitivity is_in_cone evaluation_of span_of partial_of group_variance_span group_covariance_span mean joint total below outward quotient holds_zero lesser greater min_ℚ max_ℚ up down cut_off is_in_range value_of ◌+ℚ◌ ◌*ℚ◌ inv_ℚ neg_ℚ is_at_most_ℚ floor_ℚ floor is_at_most inverse ◌⊕◌ ◌⊗◌ fraction.negated /_rec₂ /_rec
+returns-clause-equal_degrees c = refl
+
+pub returns-clause-calibration : goal.returns-clause-calibration
+unfolding row first_row later_rows infinite_row thousandths row_at row_of compare_ℚ reported_of expanded_of digits_of_span known_degrees_of known_degrees greatest_share is_zero_ℚ power ten_to scaled_square at_place csv_on_literals records_read power_span digits opens_block ends_block line_read block_read row_read table_read refusal reading_of parsed sensitivity_of sensitivity is_in_cone evaluation_of span_of partial_of group_variance_span group_covariance_span mean joint total below outward quotient holds_zero lesser greater min_ℚ max_ℚ up down cut_off is_in_range value_of ◌+ℚ◌ ◌*ℚ◌ inv_ℚ neg_ℚ is_at_most_ℚ floor_ℚ floor is_at_most inverse ◌⊕◌ ◌⊗◌ fraction.negated /_rec₂ /_rec
+returns-clause-calibration c = refl
