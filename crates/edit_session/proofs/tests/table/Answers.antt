@@ -1,12 +1,11 @@
-use Rattle.std.specs.Prelude.{◌≡◌, ℕ, ◌<◌, ◌^◌, true, codes, pos, List, [], ◌∷◌, Result, Ok, Err}
-use Rattle.std.proofs.Common.{rules, refl, sym, ◌∙◌, ap, ap₂, subst, lit<, lit≤, arith}
+use Rattle.std.specs.Prelude.{◌≡◌, ℕ, ◌<◌, ◌^◌, true, codes, pos, List, [], ◌∷◌, Result, Ok}
+use Rattle.std.proofs.Common.{rules, refl, sym, ◌∙◌, ap, subst, lit<, lit≤, arith}
 use Rattle.csv.proofs.OnLiterals.{csv_on_literals}
 use Rattle.decimal18.specs.Bound.{IsDecimal, scaled}
 use Rattle.decimal18.specs.Literal.{parsed}
 use Rattle.formula_ast.specs.Names.{is_plain_name}
 use Rattle.type_a.specs.Tables.{Table, refusal, readings_of, table_of as table_of_rows}
-use Rattle.table_records.specs.Tables.{records_read, table_of, Table as Columns}
-use Rattle.table_records.specs.declared.records.Records.{Records}
+use Rattle.table_records.specs.Tables.{records_read, table_of}
 use Rattle.sheet_rows.specs.Rows.{Joint}
 use Rattle.sheet_rows.specs.Regular.{IsRegular}
 use Rattle.edit_session.proofs.tests.table.Goals as goal
