@@ -1,3 +1,4 @@
 pub mod Found
 pub mod Forms
 pub mod Answered
+pub mod Ranges

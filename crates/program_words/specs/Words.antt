@@ -1,7 +1,7 @@
 -- What the program is asked to do by its words, of which the first is its own name: `run`; or `make`, followed by the
 -- options `--rows` and `--start`, each once, in either order, as two words `--NAME VALUE` or as one, `--NAME=VALUE`. This is
 -- our own rule.
-use Rattle.std.specs.Prelude.{ℕ, List, [], ◌∷◌, length, take, drop, codes, if◌then◌else◌, Option, Some, None, option_map, option_and_then, bytes_eq}
+use Rattle.std.specs.Prelude.{ℕ, ◌≤◌, ◌<◌, ◌^◌, List, [], ◌∷◌, length, take, drop, codes, if◌then◌else◌, Option, Some, None, option_map, option_and_then, bytes_eq}
 use Rattle.program_words.specs.declared.asked.Asked.{Asked}
 use Rattle.program_words.specs.declared.asked.Asked.TheVariants.{Run, Make}
 use Rattle.program_words.specs.Numbers.{number_of}
@@ -77,3 +77,8 @@ asked_by word (option ∷ options) = if bytes_eq word (codes "make") then option
 abbrev pub asked_of : List (List ℕ) → Option Asked
 asked_of (program ∷ word ∷ options) = asked_by word options
 asked_of words = None
+
+-- the numbers of a script that is asked for are in their ranges
+abbrev pub IsInRange : Asked → Type 0
+IsInRange Run = Unit {0}
+IsInRange (Make rows start) = (2 ≤ rows) × (rows ≤ 4096) × (start < 2 ^ 31)

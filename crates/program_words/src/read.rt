@@ -1,6 +1,6 @@
-ghost use Rattle.std.specs.Prelude.{◌≡◌, true, map, option_map, None, IfOk, IfErr, string_bytes};
+ghost use Rattle.std.specs.Prelude.{◌≡◌, true, map, option_map, None, IfOk, IfErr, IfSome, string_bytes};
 ghost use Rattle.clap.specs.Words.{app_of, kind_of, subcommand_of, subcommand_rows_of, takes};
-ghost use Rattle.program_words.specs.Words.{made_of, asked_of};
+ghost use Rattle.program_words.specs.Words.{made_of, asked_of, IsInRange};
 ghost use Rattle.program_words.specs.Grammar.{gumtree, options_found, confirmed, confirmed_by, confirmed_of};
 ghost use Rattle.program_words.specs.Views.{texts_of, as_options};
 
@@ -131,7 +131,8 @@ fn refused(error: &Error) -> Result<Option<Asked>, OutOfMemory>
 ///
 /// [`OutOfMemory`] where there is no memory to read them.
 pub fn read_words(alloc: Global, words: &[String]) -> Result<Option<Asked>, OutOfMemory>
-    ensures { IfOk result (λ asked. asked ≡ asked_of (map string_bytes words.now)) }
+    ensures asked { IfOk result (λ asked. asked ≡ asked_of (map string_bytes words.now)) }
+    ensures in_range { IfOk result (λ asked. IfSome asked IsInRange) }
 {
     match parsed(alloc, words) {
         Ok(matches) => Ok(confirmed_of(options_found(&matches), words)),
