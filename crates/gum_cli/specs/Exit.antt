@@ -17,7 +17,7 @@ exit_code_of NoWords = 7
 -- the line on standard error, without its end; a run that is done has none
 abbrev pub message_of : Ending → Option (List ℕ)
 message_of (Ran Done) = None
-message_of (Ran Usage) = Some (codes "usage: gumtree run")
+message_of (Ran Usage) = Some (codes "usage: gumtree run | make --rows N --start S")
 message_of (Ran ReadFault) = Some (codes "read fault")
 message_of (Ran WriteFault) = Some (codes "write fault")
 message_of (Ran InputLimit) = Some (codes "input too long")

@@ -1,9 +1,13 @@
 -- What a run does, by how it ends.
-use Rattle.std.specs.Prelude.{ℕ, ◌+◌, ◌≤◌, ◌⊎◌, Bool, false, IsTrue, if◌then◌else◌, List, [], ◌∷◌, length, Option, Some, None, String, string_bytes, bytes_eq, codes}
+use Rattle.std.specs.Prelude.{ℕ, ◌+◌, ◌≤◌, ◌⊎◌, Bool, IsTrue, if◌then◌else◌, List, map, length, Option, Some, None, String, string_bytes}
 use Rattle.std.specs.Io.KnownBytes.{IsAtEnd}
 use Rattle.std.specs.declared.alloc.Global.{Global}
 use Rattle.byte_io.specs.Source.{Took}
-use Rattle.byte_io.specs.Sink.{Wrote, WrotePart}
+use Rattle.byte_io.specs.Sink.{HasRoom, Wrote, WrotePart}
+use Rattle.program_words.specs.declared.asked.Asked.{Asked}
+use Rattle.program_words.specs.declared.asked.Asked.TheVariants.{Run, Make}
+use Rattle.program_words.specs.Words.{asked_of}
+use Rattle.script_maker.specs.Scripts.{script}
 use Rattle.script_lines.specs.Items.{items_of}
 use Rattle.edit_session.specs.Machine.{initial}
 use Rattle.gum_cli.specs.Script.{out, early, AreSound}
@@ -16,16 +20,21 @@ script_limit = 16777216
 abbrev pub piece_length : ℕ
 piece_length = 65536
 
--- the words that are accepted: the program's own name, and `run`
-abbrev pub is_run : List (String Global) → Bool
-is_run (program ∷ word ∷ []) = bytes_eq (string_bytes word) (codes "run")
-is_run words = false
+-- what the words ask for
+abbrev pub asked : List (String Global) → Option Asked
+asked words = asked_of (map string_bytes words)
 
 -- a bounded sink has room for all replies, which are known where the source tells its bytes
 abbrev pub RoomForReplies : Option ℕ → Option (List ℕ) → Type 0
 RoomForReplies None left = Unit {0}
 RoomForReplies (Some room) None = ⊥
 RoomForReplies (Some room) (Some left) = length (out left) ≤ room
+
+-- the same for what the words ask for: the generated script is known
+abbrev pub RoomForAsked : Option Asked → Option ℕ → Option (List ℕ) → Type 0
+RoomForAsked None room left = Unit {0}
+RoomForAsked (Some Run) room left = RoomForReplies room left
+RoomForAsked (Some (Make rows start)) room left = HasRoom room (length (script rows start))
 
 -- the replies that are due: to all lines where the end was met, and else to the whole ones
 abbrev pub due : Bool → List ℕ → List ℕ

@@ -37,7 +37,7 @@ impl Ending {
     {
         match self {
             Ending::Ran(Status::Done) => None,
-            Ending::Ran(Status::Usage) => Some("usage: gumtree run"),
+            Ending::Ran(Status::Usage) => Some("usage: gumtree run | make --rows N --start S"),
             Ending::Ran(Status::ReadFault) => Some("read fault"),
             Ending::Ran(Status::WriteFault) => Some("write fault"),
             Ending::Ran(Status::InputLimit) => Some("input too long"),

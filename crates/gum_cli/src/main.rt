@@ -1,11 +1,13 @@
 //! The program `gumtree`: it reads a script of commands from standard input and writes one reply for
-//! each to standard output.
+//! each to standard output, or writes a generated script there.
 #![tactic(auto)]
 
 mod exit;
 mod laws;
 #[cfg(test)]
 mod limit_tests;
+#[cfg(test)]
+mod make_tests;
 mod respond;
 mod run;
 #[cfg(test)]
@@ -15,10 +17,10 @@ mod serve;
 mod tests;
 mod worked;
 
-ghost use Rattle.std.specs.Prelude.{◌≡◌, ◌↔◌, IsFalse};
+ghost use Rattle.std.specs.Prelude.{◌≡◌, ◌⊎◌, None};
 ghost use Rattle.std.specs.Process.{exit_status};
 ghost use Rattle.gum_cli.specs.Exit.{exit_code_of};
-ghost use Rattle.gum_cli.specs.Run.{is_run};
+ghost use Rattle.gum_cli.specs.Run.{asked};
 
 use crate::exit::Ending;
 use crate::run::{Status, run};
@@ -45,12 +47,13 @@ fn main(rt: HostRuntime) -> ExitCode {
     end(&rt, Ending::Ran(status))
 }
 
-// Runs on the standard streams, with a counter for the ledger that `blank` stands for.
+// Does what the words ask for on the standard streams, with a counter for the ledger that `blank` stands for.
 fn start<L: Ledger>(rt: &HostRuntime, words: &Vec<String>, blank: Blank) -> Status
     requires name { blank.name ≡ L.name }
     requires parts { blank.parts ≡ L.parts }
     requires one { L.parts ≡ 1 }
-    ensures usage { (result ≡ Status.Usage) ↔ IsFalse (is_run words.now.items) }
+    ensures usage { result ≡ Status.Usage → asked words.now.items ≡ None }
+    ensures refused { asked words.now.items ≡ None → (result ≡ Status.Usage) ⊎ (result ≡ Status.OutOfMemory) }
 {
     let mut source = StdSource::new(rt.reader());
     let mut sink = StdSink::new(io::writer(rt));

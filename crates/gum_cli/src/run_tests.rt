@@ -122,7 +122,11 @@ fn reads_one_piece_past_the_limit(rt: HostRuntime) -> Result<(), Fail> {
 fn tells_each_ending(rt: HostRuntime) {
     let endings = [
         (Ending::Ran(Status::Done), 0, None),
-        (Ending::Ran(Status::Usage), 2, Some("usage: gumtree run")),
+        (
+            Ending::Ran(Status::Usage),
+            2,
+            Some("usage: gumtree run | make --rows N --start S"),
+        ),
         (Ending::Ran(Status::ReadFault), 3, Some("read fault")),
         (Ending::Ran(Status::WriteFault), 4, Some("write fault")),
         (Ending::Ran(Status::InputLimit), 5, Some("input too long")),

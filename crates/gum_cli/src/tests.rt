@@ -1,6 +1,6 @@
 //! Whole runs: worked scripts in pieces, and each way in which a run can end.
 
-ghost use Rattle.std.specs.Prelude.{◌≡◌, ◌≤◌, ◌^◌};
+ghost use Rattle.std.specs.Prelude.{◌≡◌, ◌≤◌, ◌^◌, ◌∷◌, [], map, codes, string_bytes, IfOk};
 ghost use Rattle.gum_cli.specs.Run.{RoomForReplies};
 
 use crate::run::{Status, run};
@@ -200,7 +200,9 @@ impl Read for Drip<'_> {
 }
 
 // The words `gumtree` and `word`.
-fn words(rt: &HostRuntime, word: &str) -> Result<Vec<String>, Fail> {
+pub(crate) fn words(rt: &HostRuntime, word: &str) -> Result<Vec<String>, Fail>
+    ensures { IfOk result (λ words. map string_bytes words.items ≡ codes "gumtree" ∷ word.now ∷ []) }
+{
     let mut words = Vec::new(rt.alloc());
     words.push(String::from_str(rt.alloc(), "gumtree")?)?;
     words.push(String::from_str(rt.alloc(), word)?)?;
@@ -209,7 +211,7 @@ fn words(rt: &HostRuntime, word: &str) -> Result<Vec<String>, Fail> {
 
 // The status, and what is written for a script that comes byte by byte, to a sink that takes one
 // byte at a time. The counter is for the ledger that `blank` stands for.
-fn run_streams<L: Ledger>(
+pub(crate) fn run_streams<L: Ledger>(
     rt: &HostRuntime,
     words: &Vec<String>,
     script: &[u8],
@@ -583,14 +585,6 @@ fn ends_at_a_failing_write(rt: HostRuntime) -> Result<(), Fail> {
     let status = run_in_memory::<Brand>(&rt, &mut source, &mut sink, Blank::new(1))?;
     assert_eq!(rt; status, Status::WriteFault);
     assert_eq!(rt; sink.written().len(), 0);
-    Ok(())
-}
-
-#[test]
-fn knows_one_word(rt: HostRuntime) -> Result<(), Fail> {
-    let (status, replies) = replies_to(&rt, "help", FIRST)?;
-    assert_eq!(rt; status, Status::Usage);
-    assert_eq!(rt; replies.len(), 0);
     Ok(())
 }
 

@@ -1,0 +1,5 @@
+use Rattle.gum_cli.proofs.Rooms.{no_bound}
+use Rattle.gum_cli.proofs.start.Goals as goal
+
+pub run-requires-clause-room : goal.run-requires-clause-room
+run-requires-clause-room g c = no_bound _ _
