@@ -1,5 +1,5 @@
 use Rattle.gum_cli.proofs.Rooms.{no_bound}
 use Rattle.gum_cli.proofs.tests.run_streams.Goals as goal
 
-pub run-requires-clause-room : goal.run-requires-clause-room
-run-requires-clause-room g c = no_bound _ _
+pub run-status-requires-clause-room : goal.run-status-requires-clause-room
+run-status-requires-clause-room g c = no_bound _ _
