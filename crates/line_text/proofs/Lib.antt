@@ -1,3 +1,4 @@
 pub mod PieceSteps
+pub mod Searches
 pub mod WordSteps
 pub mod WrittenTexts

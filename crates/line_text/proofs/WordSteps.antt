@@ -1,30 +1,9 @@
--- The words of a line, one by one, and where its last blanks begin.
-use Rattle.std.proofs.Common.{◌≡◌, ℕ, zero, suc, ◌+◌, ◌<◌, ◌==◌, ◌&&◌, Bool, true, false, cond, List, [], ◌∷◌, length, take, drop, refl, ◌∙◌, ap, arith, drop-drop}
+-- The words of a line, one by one.
+use Rattle.std.proofs.Common.{◌≡◌, ℕ, suc, ◌+◌, ◌<◌, false, List, [], ◌∷◌, length, take, drop, ◌∙◌, ap, arith, drop-drop}
 use Rattle.std.specs.List.{prefix_len}
-use Rattle.std.proofs.lemmas.Bool.Decides.{nat_tests}
-use Rattle.line_text.specs.Blanks.{is_blank, IsTight, written_len}
+use Rattle.line_text.specs.Blanks.{is_blank, IsTight}
 use Rattle.line_text.specs.Words.{Word, word_len, word_at, words, words_from}
 use Rattle.line_text.proofs.PieceSteps.{blanks_tight, blanks_passed, first_piece, no_pieces}
-
--- ---- the last byte that is no blank
--- the length without last blanks, where `len` is that of the first `i` bytes, and `more` that of those after
-abbrev pub last_after : ℕ → ℕ → ℕ → ℕ
-last_after len i zero = len
-last_after len i (suc more) = i + suc more
-
-last_step : (b : Bool) (len len' i more : ℕ) → (b ≡ true → len' ≡ len) → (b ≡ false → len' ≡ i + 1) →
-    last_after len' (i + 1) more ≡ last_after len i (cond (b && more == 0) 0 (suc more))
-last_step true len len' i zero kept put = kept refl
-last_step true len len' i (suc more) kept put =
-    let some : (suc more == 0) ≡ false = grind (arith, nat_tests) in
-    rw some (omega arith)
-last_step false len len' i zero kept put = put refl
-last_step false len len' i (suc more) kept put = omega arith
-
-pub blank_or_last : (byte : ℕ) (bytes : List ℕ) (len len' i : ℕ) →
-    (is_blank byte ≡ true → len' ≡ len) → (is_blank byte ≡ false → len' ≡ i + 1) →
-    last_after len' (i + 1) (written_len bytes) ≡ last_after len i (written_len (byte ∷ bytes))
-blank_or_last byte bytes len len' i kept put = last_step (is_blank byte) len len' i (written_len bytes) kept put
 
 -- ---- words
 tight_len : (byte : ℕ) (bytes : List ℕ) → is_blank byte ≡ false → word_len (byte ∷ bytes) ≡ suc (word_len bytes)

@@ -5,6 +5,8 @@ ghost use Rattle.std.specs.List.{prefix_len};
 ghost use Rattle.line_text.specs.Blanks.{is_blank, written_len};
 ghost use Rattle.line_text.specs.Words.{is_no_hash, without_comment, written_part};
 
+use memchr::memchr;
+
 /// Whether the byte is a blank, which may stand between words and tokens: a space or a tab.
 pub fn is_blank(byte: u8) -> bool
     ensures { result ≡ is_blank byte }
@@ -51,7 +53,7 @@ fn comment_start(line: &[u8]) -> usize
     ensures is { result ≡ prefix_len is_no_hash line.now }
     ensures within { result ≤ length line.now }
 {
-    line.iter().take_while(|byte| **byte != b'#').count()
+    memchr(b'#', line).unwrap_or(line.len())
 }
 
 /// The line before its comment, which begins with the first `#`.
@@ -66,11 +68,9 @@ pub fn written_len(text: &[u8]) -> usize
     ensures is { result ≡ written_len text.now }
     ensures within { result ≤ length text.now }
 {
-    let mut len = 0;
-    for (i, byte) in text.iter().enumerate() {
-        if !is_blank(*byte) {
-            len = i + 1;
-        }
+    let mut len = text.len();
+    while len > 0 && is_blank(text[len - 1]) {
+        len -= 1;
     }
     len
 }

@@ -1,10 +1,12 @@
-use Rattle.std.proofs.Common.{◌≡◌, ◌≤◌, drop}
+use Rattle.std.proofs.Common.{◌≡◌, ◌≤◌, length, take}
 use Rattle.line_text.specs.Blanks.{written_len}
-use Rattle.line_text.proofs.WordSteps.{last_after}
 use Rattle.line_text.proofs.blanks.written_len.Given as goal
 
-abbrev pub invariant-loop-i : goal.invariant-loop-i
-invariant-loop-i l = record {
-  last : last_after l.len l.i (written_len (drop l.i l.text)) ≡ written_len l.text;
-  within : l.len ≤ l.i;
+abbrev pub invariant-loop-len : goal.invariant-loop-len
+invariant-loop-len l = record {
+  same : written_len (take l.len l.text) ≡ written_len l.text;
+  within : l.len ≤ length l.text;
 }
+
+abbrev pub decreases-loop-len : goal.decreases-loop-len
+decreases-loop-len l = l.len
