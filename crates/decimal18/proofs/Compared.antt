@@ -30,6 +30,11 @@ compared c d p q k r e h =
     sym (compare_ℚ-is (value_of (scaled c p)) (value_of (scaled d q)) r
     (subst (λ x. IsOrderOf r x (value_of (scaled d q))) f (same_places (c *ℤ pos (10 ^ k)) d q r h)))
 
+pub level : (c d : ℤ) (p q : ℕ) (r : Ordering) → p ≡ q → MatchOrdering r (c <ℤ d) (c ≡ d) (d <ℤ c) → r ≡ compare_ℚ (value_of (scaled c p)) (value_of (scaled d q))
+level c d p q r e h =
+    sym (compare_ℚ-is (value_of (scaled c p)) (value_of (scaled d q)) r
+    (subst (λ i. IsOrderOf r (value_of (scaled c p)) (value_of (scaled d i))) e (same_places c d p r h)))
+
 -- ---- sizes: more than 19 zeros order no other way than 19
 record IsSameOrder (m t n u : ℕ) : Type 0 where
   less : m * t < n → m * u < n

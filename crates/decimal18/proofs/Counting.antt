@@ -59,39 +59,3 @@ all_kept n p lost digits places = record {
   most_places = places;
   as_many = inl refl;
 }
-
--- ---- digits before eighteen others
-pub after_below : (m n : ℕ) → m / 10 ^ 18 < 10 ^ n → m < 10 ^ (18 + n)
-after_below m n h =
-    subst (λ t. m < t) (turned (10 ^ n) (10 ^ 18) ∙ sym (pow-add 10 18 n)) ((div-lt_iff_lt-mul {k = 10 ^ 18} {x = m} {y = 10 ^ n} (omega arith)).0 h) where
-      turned : (a b : ℕ) → a * b ≡ b * a
-      turned a b = omega arith
-
-pub after_reached : (m n : ℕ) → 10 ^ n ≤ m / 10 ^ 18 → 10 ^ (18 + n) ≤ m
-after_reached m n h =
-    subst (λ t. t ≤ m) (turned (10 ^ n) (10 ^ 18) ∙ sym (pow-add 10 18 n)) ((le-div_iff_mul-le {k = 10 ^ 18} {x = 10 ^ n} {y = m} (omega arith)).0 h) where
-      turned : (a b : ℕ) → a * b ≡ b * a
-      turned a b = omega arith
-
--- the count of the digits before, which may be none
-pub counted_below : (m n : ℕ) → 0 < n → 10 ^ (n - 1) ≤ m / 10 ^ 18 → 10 ^ (17 + n) ≤ m
-counted_below m n n0 h = let e : 18 + (n - 1) ≡ 17 + n = omega arith in subst (λ i. 10 ^ i ≤ m) e (after_reached m (n - 1) h)
-
--- a number of 128 bits has three digits at most before 36 others
-pub few_leading : (m n : ℕ) → m < 2 ^ 128 → (0 < n → 10 ^ (n - 1) ≤ m / 10 ^ 18 / 10 ^ 18) → n ≤ 3
-few_leading m n fits h = by (cases_lt 3 n) where
-  by : (3 < n) ⊎ (n ≤ 3) → n ≤ 3
-  by (inr g) = g
-  by (inl g) =
-      let a : 10 ^ (n - 1) ≤ m / 10 ^ 18 / 10 ^ 18 = h (omega arith) in
-      let b : 10 ^ 3 ≤ 10 ^ (n - 1) = powers_rise 3 (n - 1) (omega arith) in
-      absurd (omega arith)
-
-pub counted_twice : (m n : ℕ) → 10 ^ 18 ≤ m / 10 ^ 18 → (0 < n → 10 ^ (n - 1) ≤ m / 10 ^ 18 / 10 ^ 18) → 10 ^ (17 + (18 + n)) ≤ m
-counted_twice m n large h = by (cases_lt 0 n) where
-  leading : (0 < n) ⊎ (n ≤ 0) → 10 ^ (17 + n) ≤ m / 10 ^ 18
-  leading (inl n0) = counted_below (m / 10 ^ 18) n n0 (h n0)
-  leading (inr none) = let e : 17 ≡ 17 + n = omega arith in subst (λ i. 10 ^ i ≤ m / 10 ^ 18) e (omega arith)
-
-  by : (0 < n) ⊎ (n ≤ 0) → 10 ^ (17 + (18 + n)) ≤ m
-  by k = let e : 18 + (17 + n) ≡ 17 + (18 + n) = omega arith in subst (λ i. 10 ^ i ≤ m) e (after_reached m (17 + n) (leading k))

@@ -393,3 +393,18 @@ first_enough digits places lost d p more f enough = by f.as_many enough.reason w
         let c : r < 1 = subst (λ m. r < 10 ^ m) e b in
         let f : n ≡ d * 1 + r = subst (λ m. n ≡ d * 10 ^ m + r) e s in
         omega arith
+
+-- a number that has all its digits, where a bound holds them
+no_growth : (negative : Bool) (direction : Direction) → growth negative false direction ≡ 0
+no_growth true Down = refl
+no_growth true Up = refl
+no_growth false Down = refl
+no_growth false Up = refl
+
+pub rounded_exact : (x : ℚ) (d p : ℕ) (lost negative : Bool) (direction : Direction) → lost ≡ false → IsCutOff x d p lost → d < 10 ^ 18 → p ≤ 36
+    → Some (canonical (signed negative d) p) ≡ rounded direction (signed_ℚ negative x)
+rounded_exact x d p true negative direction e h digits most = absurd (true≢false e)
+rounded_exact x d p false negative direction e h digits most =
+    let same : d ≡ d + growth negative false direction = sym (add-zero d) ∙ ap (λ n. d + n) (sym (no_growth negative direction)) in
+    ap (λ n. Some (canonical (signed negative n) p)) same
+    ∙ sym (rounded_is x d p false negative direction h digits most (record { reason = inl refl }) (λ past. false≢true past.more))

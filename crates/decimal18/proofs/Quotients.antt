@@ -1,9 +1,10 @@
 -- Quotients: the digits of a long division are those of the exact quotient.
-use Rattle.std.specs.Prelude.{◌≡◌, ◌≢◌, ℕ, zero, suc, ◌+◌, ◌-◌, ◌*◌, ◌/◌, ◌^◌, ◌<◌, ◌≤◌, Bool, true, false, ℤ, pos, negsuc, ◌*ℤ◌, ◌≤ℤ◌, neg_ℤ, unsigned_abs, refl}
-use Rattle.std.proofs.Common.{sym, ap, subst, ◌∙◌, arith}
-use Rattle.std.proofs.Math.Nat.{mul-pos, one-le-pow, mul-le-mul_right, mul-lt-mul_of_pos_right, div-mul-le_self, lt-div-mul-add}
+use Rattle.std.specs.Prelude.{◌≡◌, ◌≢◌, ◌⊎◌, ℕ, zero, suc, ◌+◌, ◌-◌, ◌*◌, ◌/◌, ◌^◌, ◌<◌, ◌≤◌, Bool, true, false, ℤ, pos, negsuc, ◌*ℤ◌, ◌≤ℤ◌, neg_ℤ, unsigned_abs, refl}
+use Rattle.std.proofs.Common.{sym, ap, subst, ◌∙◌, arith, inl, inr}
+use Rattle.std.proofs.Math.Nat.{mul-pos, one-le-pow, mul-le-mul_right, mul-lt-mul_of_pos_right, div-mul-le_self, lt-div-mul-add, le-div_iff_mul-le}
 use Rattle.std.proofs.Math.Dec.{lit≤}
 use Rattle.std.proofs.Math.Pow.{pow-add}
+use Rattle.std.proofs.lemmas.Bool.{cases_lt}
 use Rattle.std.proofs.lemmas.Int.{ints}
 use lib.Signed.{≤ℤ_refl}
 use std.Quotient.{cls, eq/, /_rec, /_rec₂}
@@ -16,6 +17,7 @@ use Rattle.decimal18.specs.Bound.{Bound, scaled, fraction_of, value_of}
 use Rattle.decimal18.specs.Down.{IsInRange, floor_at}
 use Rattle.decimal18.specs.Digits.{signed, signed_ℚ, differ, IsCutOff, IsPart}
 use Rattle.decimal18.proofs.Values.{under_floor, under_value}
+use Rattle.decimal18.proofs.Counting.{powers_rise}
 use Rattle.decimal18.proofs.CutOff.{below_quotient, pos_same, le_pos}
 
 -- m * 10 ^ u divided by n * 10 ^ v
@@ -198,3 +200,27 @@ pub ratio_at : (c : ℤ) (na : Bool) (m n d p : ℕ) (n0 : 0 < n) (d0 : 0 < d) �
 ratio_at c na m n d p n0 d0 ec en =
     let P : ℕ → Type 0 = λ i. (i0 : 0 < i) → signed_ℚ na (cls (ratio_of m n 0 p n0)) ≡ cls (record { num = c; den = i; positive = i0 }) /ℚ of_ℤ (pos (10 ^ p)) in
     subst P en (λ i0. ratio_is c na m n p (10 ^ p) n0 i0 ec refl) d0
+
+-- ---- one division
+-- the exponent of the first digit of a number of 18 digits
+pub exponent_below : (m i : ℕ) → 10 ^ i ≤ m → m < 10 ^ 18 → i < 18
+exponent_below m i h small = by (cases_lt i 18) where
+  by : (i < 18) ⊎ (18 ≤ i) → i < 18
+  by (inl g) = g
+  by (inr g) = let f = powers_rise 18 i g in absurd (omega arith)
+
+pub widened_fits : (m i j k t : ℕ) → m < 10 * 10 ^ i → t ≡ 10 ^ k → i + k ≤ 18 + j → j < 18 → m * t < 2 ^ 128
+widened_fits m i j k t above e most small =
+    let f : m * t ≤ 10 * 10 ^ i * t = mul-le-mul_right t (omega arith) in
+    let g : 10 * 10 ^ i * t ≡ 10 ^ (1 + (i + k)) =
+    ap (λ n. 10 * 10 ^ i * n) e ∙ grouped (10 ^ i) (10 ^ k) ∙ ap (λ n. 10 * n) (sym (pow-add 10 i k)) ∙ sym (pow-add 10 1 (i + k)) in
+    let h : 10 ^ (1 + (i + k)) ≤ 10 ^ 36 = powers_rise (1 + (i + k)) 36 (omega arith) in
+    omega arith where
+      grouped : (a b : ℕ) → 10 * a * b ≡ 10 * (a * b)
+      grouped a b = omega arith
+
+pub enough_digits : (m n i j k t : ℕ) → 0 < n → 10 ^ i ≤ m → n < 10 * 10 ^ j → t ≡ 10 ^ k → i + k ≡ 18 + j → 10 ^ 17 ≤ m * t / n
+enough_digits m n i j k t n0 least above e same =
+    let f : 10 ^ i * t ≤ m * t = mul-le-mul_right t least in
+    let g : 10 ^ i * t ≡ 10 ^ 18 * 10 ^ j = ap (λ a. 10 ^ i * a) e ∙ sym (pow-add 10 i k) ∙ ap (λ a. 10 ^ a) same ∙ pow-add 10 18 j in
+    (le-div_iff_mul-le {k = n} {x = 10 ^ 17} {y = m * t} n0).1 (omega arith)

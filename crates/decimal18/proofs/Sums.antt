@@ -24,6 +24,12 @@ pub value-sum : (m n : ℤ) (p : ℕ) → value_of (scaled m p) +ℚ value_of (s
 unfolding value_of ◌+ℚ◌ ◌⊕◌ /_rec₂ /_rec
 value-sum m n p = eq/ (fraction_of (scaled m p) ⊕ fraction_of (scaled n p)) (fraction_of (scaled (m +ℤ n) p)) (record { same = at_one_place m n (10 ^ p) })
 
+pub level_sum : (c d s : ℤ) (negative : Bool) (n p q : ℕ) → s ≡ c +ℤ d → s ≡ signed negative n → p ≡ q
+    → signed_ℚ negative (value_of (scaled (pos n) q)) ≡ value_of (scaled c p) +ℚ value_of (scaled d q)
+level_sum c d s negative n p q es en ep =
+    value-signed negative n q ∙ ap (λ z. value_of (scaled z q)) (sym en ∙ es) ∙ sym (value-sum c d q)
+    ∙ ap (λ k. value_of (scaled c k) +ℚ value_of (scaled d q)) (sym ep)
+
 -- the sum at the places of the second
 pub near_value : (c d : ℤ) (p q k : ℕ) → p + k ≡ q → value_of (scaled c p) +ℚ value_of (scaled d q) ≡ value_of (scaled ((c *ℤ pos (10 ^ k)) +ℤ d) q)
 near_value c d p q k e =

@@ -7,7 +7,7 @@ use Rattle.std.proofs.Math.Nat.{one-le-pow, mul-pos}
 use Rattle.std.proofs.Math.Dec.{lit≤}
 use Rattle.std.proofs.Math.Pow.{pow-add}
 use Rattle.exact_fraction.specs.Whole.{diff_same, push}
-use Rattle.decimal18.specs.Bound.{scaled, value_of, canonical, IsBound, IsCanonical}
+use Rattle.decimal18.specs.Bound.{scaled, value_of, canonical, IsBound, IsCanonical, IsDecimal}
 use Rattle.decimal18.specs.Digits.{signed, IsWithoutZeros, HasFewZeros}
 use Rattle.decimal18.proofs.Values.{value-shifted}
 use Rattle.decimal18.proofs.Canonical.{IsReduced-canonical, one_canonical}
@@ -82,3 +82,21 @@ pub without_bound : (negative : Bool) (d p e q : ℕ) → IsWithoutZeros d p e q
 without_bound negative d p e q h few bound =
     let b = subst IsBound (canonical_without negative d p e q h few) bound in
     (subst (λ n. n < 10 ^ 18) (size_of_signed negative e) b.digits, b.most)
+
+-- taking zeros away makes no number greater
+pub without_smaller : (d p e q : ℕ) → IsWithoutZeros d p e q → e ≤ d
+without_smaller d p e q h = le-mul e (10 ^ h.zeros) d h.at_end (one-le-pow h.zeros 10 (lit≤ tt)) where
+  le-mul : (e t d : ℕ) → d ≡ e * t → 0 < t → e ≤ d
+  le-mul e zero d same t0 = absurd (omega arith)
+  le-mul e (suc t) d same t0 = omega arith
+
+-- the number in canonical form
+pub decimal_without : (negative : Bool) (d p e q : ℕ) → IsWithoutZeros d p e q → HasFewZeros e q 1 → d < 10 ^ 18 → p ≤ 36
+    → IsDecimal (scaled (signed negative e) q)
+decimal_without negative d p e q h few digits most = record {
+  bound = record {
+    digits = subst (λ n. n < 10 ^ 18) (sym (size_of_signed negative e)) (omega (arith, without_smaller d p e q h));
+    most = omega (arith, h.after_point);
+  };
+  canonical = few_canonical negative e q few;
+}

@@ -1,7 +1,6 @@
 pub mod Bound
 pub mod Down
 pub mod Digits
-pub mod Tens
 pub mod Text
 pub mod Literal
 pub mod Significand

@@ -1,14 +1,12 @@
-ghost use Rattle.std.specs.Prelude.{◌≡◌, ◌<◌, ◌≤◌, ◌^◌, ◌↔◌, IsSome, IfSome, IfOk, unsigned_abs};
+ghost use Rattle.std.specs.Prelude.{◌≡◌, ◌++◌, ◌<◌, ◌≤◌, ◌^◌, ◌↔◌, IsSome, IfSome, IfOk, OnOk, unsigned_abs};
 ghost use Rattle.decimal18.specs.Bound.{canonical, scaled, IsBound, IsCanonical};
 ghost use Rattle.decimal18.specs.Down.{negated};
 ghost use Rattle.decimal18.specs.Digits.{signed};
 ghost use Rattle.decimal18.specs.Text.{text_of};
 
 use crate::magnitude::Magnitude;
-use crate::powers::power_of_ten;
-use crate::print::{push_after_point, sign};
+use crate::print::{put_size, sign};
 use crate::sign::{is_negative, with_sign};
-use itoa::Buffer;
 use line_text::{Bytes, OutOfMemory};
 use std::alloc::Global;
 use std::marker::Model;
@@ -75,6 +73,20 @@ impl Dec {
         })
     }
 
+    /// The same of a size that is a bound with the zeros at its end.
+    #[inline(always)]
+    pub(crate) fn shortest(negative: bool, size: Magnitude) -> Dec
+        requires digits { size.digits < 10 ^ 18 }
+        requires places { size.places ≤ 36 }
+        ensures { result ≡ canonical (signed negative size.digits) size.places }
+    {
+        let short = size.without_zeros();
+        Dec {
+            coefficient: with_sign(negative, short.digits),
+            places: short.places as u8,
+        }
+    }
+
     /// The whole number of which `10^places` is the divisor; it has at most 18 digits.
     pub fn coefficient(self) -> i64
         ensures value { result ≡ self.coefficient }
@@ -128,12 +140,20 @@ impl Dec {
     pub fn print(self, alloc: Global) -> Result<Bytes, OutOfMemory>
         ensures { IfOk result (λ text. text ≡ text_of self) }
     {
-        let size = self.coefficient.unsigned_abs();
-        let places = self.places as u32;
-        let whole = (size as u128 / power_of_ten(places)) as u64;
-        let mut text = Bytes::from_slice(alloc, sign(self.coefficient))?;
-        text.extend_from_slice(Buffer::new().format(whole).as_bytes())?;
-        push_after_point(&mut text, size, places)?;
+        let mut text = Bytes::new(alloc)?;
+        self.put(&mut text)?;
         Ok(text)
+    }
+
+    /// Puts the text of the number at the end.
+    ///
+    /// # Errors
+    ///
+    /// [`OutOfMemory`] where there is no memory for it.
+    pub fn put(self, text: &mut Bytes) -> Result<(), OutOfMemory>
+        ensures { OnOk result (text.new ≡ text.old ++ text_of self) }
+    {
+        text.extend_from_slice(sign(self.coefficient))?;
+        put_size(text, self.coefficient.unsigned_abs(), self.places as u32)
     }
 }

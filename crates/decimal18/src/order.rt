@@ -21,7 +21,9 @@ impl Ord for Dec {
     ghost matches_eq = { λ x y. order-ties x y };
 
     fn cmp(&self, other: &Dec) -> Ordering {
-        if self.places() <= other.places() {
+        if self.places() == other.places() {
+            compare_level(*self, *other)
+        } else if self.places() < other.places() {
             compare(*self, *other)
         } else {
             compare(*other, *self).reverse()
@@ -37,6 +39,15 @@ impl PartialOrd for Dec {
     fn partial_cmp(&self, other: &Dec) -> Option<Ordering> {
         Some(self.cmp(other))
     }
+}
+
+// How two numbers of as many places compare: as their coefficients.
+#[inline(always)]
+fn compare_level(a: Dec, b: Dec) -> Ordering
+    requires { a.places ≡ b.places }
+    ensures { result ≡ compare_ℚ (value_of a) (value_of b) }
+{
+    a.coefficient().cmp(&b.coefficient())
 }
 
 // How `a`, which has no more places, compares with `b`.

@@ -1,53 +1,85 @@
 ghost use Rattle.std.specs.Prelude.{◌≡◌, ◌+◌, ◌-◌, ◌<◌, ◌≤◌, ◌^◌};
-ghost use Rattle.decimal18.specs.Tens.{powers_from};
 
-use step_table::StepTable;
+// The powers of ten that 64 bits hold.
+static POWERS: [u64; 20] = [
+    1,
+    10,
+    100,
+    1_000,
+    10_000,
+    100_000,
+    1_000_000,
+    10_000_000,
+    100_000_000,
+    1_000_000_000,
+    10_000_000_000,
+    100_000_000_000,
+    1_000_000_000_000,
+    10_000_000_000_000,
+    100_000_000_000_000,
+    1_000_000_000_000_000,
+    10_000_000_000_000_000,
+    100_000_000_000_000_000,
+    1_000_000_000_000_000_000,
+    10_000_000_000_000_000_000,
+];
 
-/// The power of ten above those of the table.
-pub const STEP: u128 = 1_000_000_000_000_000_000;
+// Those from there on that 128 bits hold.
+static WIDE_POWERS: [u128; 19] = [
+    100_000_000_000_000_000_000,
+    1_000_000_000_000_000_000_000,
+    10_000_000_000_000_000_000_000,
+    100_000_000_000_000_000_000_000,
+    1_000_000_000_000_000_000_000_000,
+    10_000_000_000_000_000_000_000_000,
+    100_000_000_000_000_000_000_000_000,
+    1_000_000_000_000_000_000_000_000_000,
+    10_000_000_000_000_000_000_000_000_000,
+    100_000_000_000_000_000_000_000_000_000,
+    1_000_000_000_000_000_000_000_000_000_000,
+    10_000_000_000_000_000_000_000_000_000_000,
+    100_000_000_000_000_000_000_000_000_000_000,
+    1_000_000_000_000_000_000_000_000_000_000_000,
+    10_000_000_000_000_000_000_000_000_000_000_000,
+    100_000_000_000_000_000_000_000_000_000_000_000,
+    1_000_000_000_000_000_000_000_000_000_000_000_000,
+    10_000_000_000_000_000_000_000_000_000_000_000_000,
+    100_000_000_000_000_000_000_000_000_000_000_000_000,
+];
 
-// Writes the table of the powers of ten with these exponents.
-macro_rules! table_of_powers {
-    ($($exponent:literal)*) => {
-        StepTable::new([$(10_u64.pow($exponent)),*])
-    };
-}
-
-// The powers of ten with up to 18 digits.
-fn powers() -> StepTable<18>
-    ensures { result ≡ powers_from 0 18 }
+/// The power of ten with this exponent, in 64 bits.
+#[inline(always)]
+pub fn short_power_of_ten(exponent: u32) -> u64
+    requires { exponent < 20 }
+    ensures value { result ≡ 10 ^ exponent }
+    ensures positive { 0 < result }
 {
-    let Some(table) = table_of_powers!(0 1 2 3 4 5 6 7 8 9 10 11 12 13 14 15 16 17) else {
-        unreachable!()
-    };
-    table
+    POWERS[exponent as usize]
 }
 
 /// The power of ten with this exponent.
+#[inline]
 pub fn power_of_ten(exponent: u32) -> u128
     requires { exponent < 39 }
     ensures value { result ≡ 10 ^ exponent }
     ensures positive { 0 < result }
 {
-    let exponent = exponent as usize;
-    if exponent < 18 {
-        powers().key(exponent) as u128
-    } else if exponent < 36 {
-        powers().key(exponent - 18) as u128 * STEP
+    if exponent < 20 {
+        short_power_of_ten(exponent) as u128
     } else {
-        powers().key(exponent - 36) as u128 * STEP * STEP
+        WIDE_POWERS[exponent as usize - 20]
     }
 }
 
 /// How many digits the number has; 0 has none.
-pub fn count_digits(number: u64) -> u32
-    requires { number < 10 ^ 18 }
+#[inline]
+pub fn count_digits(number: u128) -> u32
     ensures below { number < 10 ^ result }
     ensures reached { 0 < result → 10 ^ (result - 1) ≤ number }
-    ensures most { result ≤ 18 }
+    ensures most { result ≤ 39 }
 {
-    match powers().at_or_below(number) {
-        Some(place) => place as u32 + 1,
+    match number.checked_ilog10() {
+        Some(place) => place + 1,
         None => 0,
     }
 }

@@ -1,8 +1,12 @@
-ghost use Rattle.std.specs.Prelude.{◌≡◌, ◌+◌, ◌/◌, ◌%◌, ◌^◌, ◌≤◌, ◌++◌, OnOk};
+ghost use Rattle.std.specs.Prelude.{◌≡◌, ◌+◌, ◌/◌, ◌^◌, ◌<◌, ◌≤◌, ◌++◌, decimal, OnOk};
 ghost use Rattle.decimal18.specs.Text.{sign_of, after_point, last_digits};
 
-use crate::powers::power_of_ten;
+use crate::powers::short_power_of_ten;
+use itoa::Buffer;
 use line_text::{Bytes, OutOfMemory};
+
+// As many zeros as a bound has places before its last eighteen.
+static ZEROS: [u8; 18] = [b'0'; 18];
 
 /// `-` for a number below 0.
 pub fn sign(coefficient: i64) -> &'static [u8]
@@ -11,39 +15,63 @@ pub fn sign(coefficient: i64) -> &'static [u8]
     if coefficient < 0 { b"-" } else { b"" }
 }
 
-/// Puts the point and the digits after it at the end, where there are such digits.
+/// Puts the digits at the end, and the point before so many of the last ones.
 ///
 /// # Errors
 ///
 /// [`OutOfMemory`] where there is no memory for them.
-pub fn push_after_point(text: &mut Bytes, size: u64, places: u32) -> Result<(), OutOfMemory>
-    requires { places ≤ 36 }
-    ensures { OnOk result (text.new ≡ text.old ++ after_point places size) }
+pub fn put_size(text: &mut Bytes, size: u64, places: u32) -> Result<(), OutOfMemory>
+    requires digits { size < 10 ^ 18 }
+    requires places { places ≤ 36 }
+    ensures { OnOk result (text.new ≡ text.old ++ decimal (size / 10 ^ places) ++ after_point places size) }
 {
     if places == 0 {
-        return Ok(());
+        return text.extend_from_slice(Buffer::new().format(size).as_bytes());
     }
+    if places < 18 && size >= short_power_of_ten(places) {
+        return put_split(text, size, places);
+    }
+    text.extend_from_slice(b"0.")?;
+    put_last_digits(text, size, places)
+}
+
+// The same where there are digits before the point and after it.
+fn put_split(text: &mut Bytes, size: u64, places: u32) -> Result<(), OutOfMemory>
+    requires digits { size < 10 ^ 18 }
+    requires places { 0 < places }
+    requires whole { 10 ^ places ≤ size }
+    ensures { OnOk result (text.new ≡ text.old ++ decimal (size / 10 ^ places) ++ after_point places size) }
+{
+    let mut buffer = Buffer::new();
+    let digits = buffer.format(size).as_bytes();
+    let (whole, rest) = digits.split_at(digits.len() - places as usize);
+    text.extend_from_slice(whole)?;
     text.push(b'.')?;
-    push_last_digits(text, size, places)
+    text.extend_from_slice(rest)
 }
 
-// Puts so many of the last digits at the end, with leading zeros where there are fewer.
-fn push_last_digits(text: &mut Bytes, size: u64, count: u32) -> Result<(), OutOfMemory>
-    requires { count ≤ 36 }
-    ensures { OnOk result (text.new ≡ text.old ++ last_digits count size) }
+// Puts the digits at the end with zeros before them, so many in all.
+fn put_last_digits(text: &mut Bytes, size: u64, places: u32) -> Result<(), OutOfMemory>
+    requires digits { size < 10 ^ 18 }
+    requires places { places ≤ 36 }
+    requires below { size < 10 ^ places }
+    ensures { OnOk result (text.new ≡ text.old ++ last_digits places size) }
 {
-    let mut place = count;
-    while place > 0 {
-        place -= 1;
-        text.push(digit_at(size, place))?;
+    if places <= 18 {
+        return put_digits(text, size, places);
     }
-    Ok(())
+    text.extend_from_slice(&ZEROS[..places as usize - 18])?;
+    put_digits(text, size, 18)
 }
 
-// The digit at this place, counted from the last, as its character.
-fn digit_at(size: u64, place: u32) -> u8
-    requires { place ≤ 36 }
-    ensures { result ≡ 48 + size / 10 ^ place % 10 }
+// The same of at most eighteen: those behind the 1 of the power above them.
+fn put_digits(text: &mut Bytes, size: u64, places: u32) -> Result<(), OutOfMemory>
+    requires places { places ≤ 18 }
+    requires below { size < 10 ^ places }
+    ensures { OnOk result (text.new ≡ text.old ++ last_digits places size) }
 {
-    b'0' + (size as u128 / power_of_ten(place) % 10) as u8
+    let mut buffer = Buffer::new();
+    let digits = buffer.format(short_power_of_ten(places) + size).as_bytes();
+    let (_, last) = digits.split_at(1);
+    text.extend_from_slice(last)
 }

@@ -1,11 +1,11 @@
-ghost use Rattle.std.specs.Prelude.{◌≡◌, ◌≢◌, ◌↔◌, ◌+◌, ◌-◌, ◌*◌, ◌^◌, ◌<◌, ◌≤◌, ◌⊎◌, Bool, true, false, IfSome, IfNone};
+ghost use Rattle.std.specs.Prelude.{◌≡◌, ◌≢◌, ◌↔◌, ◌+◌, ◌-◌, ◌*◌, ◌/◌, ◌^◌, ◌<◌, ◌≤◌, ◌⊎◌, Bool, true, false, IfSome, IfNone};
 ghost use Rattle.exact_fraction.specs.Number.{ℚ};
 ghost use Rattle.decimal18.specs.Digits.{signed_ℚ, rounded, growth, IsCutOff, IsEnough, IsFirst, IsPast};
 
 use crate::Dec;
 use crate::direction::Direction;
 use crate::magnitude::Magnitude;
-use crate::powers::{STEP, count_digits, power_of_ten};
+use crate::powers::{count_digits, power_of_ten, short_power_of_ten};
 
 // The greatest number of 18 digits.
 const MOST: u64 = 999_999_999_999_999_999;
@@ -18,8 +18,40 @@ struct First {
     lost: bool,
 }
 
+// The digits of a number before its last ones, and the number that these are.
+#[derive(Clone, Copy, Debug, PartialEq, Eq)]
+struct Parts {
+    kept: u64,
+    rest: u128,
+}
+
 /// The bound in this direction of a number that has these digits; `lost` says whether it has more.
+#[inline(always)]
 pub fn round(
+    negative: bool,
+    digits: u128,
+    places: u32,
+    lost: bool,
+    direction: Direction,
+) -> Option<Dec>
+    requires places { places ≤ 72 }
+    requires enough { IsEnough digits places lost }
+    ensures { (x : ℚ) → IsCutOff x digits places lost → result ≡ rounded direction (signed_ℚ negative x) }
+{
+    if digits <= MOST as u128 && places <= 36 && !lost {
+        return Some(Dec::shortest(
+            negative,
+            Magnitude {
+                digits: digits as u64,
+                places,
+            },
+        ));
+    }
+    round_off(negative, digits, places, lost, direction)
+}
+
+// The same where the number may be no bound.
+fn round_off(
     negative: bool,
     digits: u128,
     places: u32,
@@ -86,13 +118,37 @@ fn cut(digits: u128, places: u32, lost: bool) -> Option<First>
     if count > places {
         return None;
     }
+    let parts = split_off(digits, count);
+    Some(First {
+        digits: parts.kept,
+        places: places - count,
+        lost: has_more(lost, parts.rest),
+    })
+}
+
+// Takes so many of the last digits off.
+#[inline(always)]
+fn split_off(digits: u128, count: u32) -> Parts
+    requires count { count < 39 }
+    requires fits { digits / 10 ^ count < 10 ^ 18 }
+    ensures kept { result.kept ≡ digits / 10 ^ count }
+    ensures rest { result.rest ≡ digits - digits / 10 ^ count * 10 ^ count }
+{
+    // A division of 64 bits is by far the shorter one.
+    if digits <= u64::MAX as u128 && count < 20 {
+        let power = short_power_of_ten(count);
+        let kept = digits as u64 / power;
+        return Parts {
+            kept,
+            rest: (digits as u64 - kept * power) as u128,
+        };
+    }
     let power = power_of_ten(count);
     let kept = digits / power;
-    Some(First {
-        digits: kept as u64,
-        places: places - count,
-        lost: has_more(lost, digits - kept * power),
-    })
+    Parts {
+        kept: kept as u64,
+        rest: digits - kept * power,
+    }
 }
 
 /// Whether something is left out: before, or by this rest.
@@ -108,10 +164,5 @@ fn surplus(digits: u128) -> u32
     ensures reached { 0 < result → 10 ^ (17 + result) ≤ digits }
     ensures most { result ≤ 21 }
 {
-    let leading = digits / STEP;
-    if leading < STEP {
-        count_digits(leading as u64)
-    } else {
-        18 + count_digits((leading / STEP) as u64)
-    }
+    count_digits(digits).saturating_sub(18)
 }

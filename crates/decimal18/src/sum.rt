@@ -5,9 +5,9 @@ ghost use Rattle.decimal18.specs.Digits.{signed, rounded, joined, IsPart};
 
 use crate::Dec;
 use crate::direction::Direction;
-use crate::powers::power_of_ten;
+use crate::powers::{power_of_ten, short_power_of_ten};
 use crate::round::{has_more, round};
-use crate::sign::differ;
+use crate::sign::{differ, is_negative};
 
 // A size with its sign.
 #[derive(Clone, Copy, Debug, PartialEq, Eq)]
@@ -27,7 +27,9 @@ struct Part {
 pub fn sum(a: Dec, b: Dec, direction: Direction) -> Option<Dec>
     ensures { result ≡ rounded direction (value_of a +ℚ value_of b) }
 {
-    if a.places() <= b.places() {
+    if a.places() == b.places() {
+        level_sum(a, b, direction)
+    } else if a.places() < b.places() {
         sum_by_places(a, b, direction)
     } else {
         sum_by_places(b, a, direction)
@@ -39,6 +41,22 @@ pub fn difference(a: Dec, b: Dec, direction: Direction) -> Option<Dec>
     ensures { result ≡ rounded direction (value_of a +ℚ neg_ℚ (value_of b)) }
 {
     sum(a, b.negated(), direction)
+}
+
+// The sum at one number of places: that of the coefficients, which 64 bits hold.
+#[inline(always)]
+fn level_sum(a: Dec, b: Dec, direction: Direction) -> Option<Dec>
+    requires { a.places ≡ b.places }
+    ensures { result ≡ rounded direction (value_of a +ℚ value_of b) }
+{
+    let coefficient = a.coefficient() + b.coefficient();
+    round(
+        is_negative(coefficient),
+        coefficient.unsigned_abs() as u128,
+        b.places() as u32,
+        false,
+        direction,
+    )
 }
 
 // The sum where `a` has no more places.
@@ -68,7 +86,8 @@ fn near_sum(a: Dec, b: Dec, direction: Direction) -> Option<Dec>
     ensures { result ≡ rounded direction (value_of a +ℚ value_of b) }
 {
     let places = b.places() as u32;
-    let a_size = a.size() as u128 * power_of_ten(places - a.places() as u32);
+    let power = short_power_of_ten(places - a.places() as u32);
+    let a_size = a.size() as u128 * power as u128;
     let sum = signed_sum(
         Signed {
             negative: a.is_negative(),

@@ -1,4 +1,5 @@
 use crate::{Dec, add_down, add_up};
+use line_text::Bytes;
 use std::test::Fail;
 
 const MOST: i64 = 999_999_999_999_999_999;
@@ -66,9 +67,20 @@ fn texts(rt: HostRuntime) -> Result<(), Fail> {
         (-5, 1, "-0.5"),
         (1, 36, "0.000000000000000000000000000000000001"),
         (-MOST, 18, "-0.999999999999999999"),
+        (MOST, 17, "9.99999999999999999"),
+        (7, 18, "0.000000000000000007"),
+        (-MOST, 19, "-0.0999999999999999999"),
+        (MOST, 36, "0.000000000000000000999999999999999999"),
     ] {
-        let printed = dec(n, places)?.print(rt.alloc())?;
-        assert_eq!(rt; printed.as_slice(), text.as_bytes(), "at {n}");
+        let number = dec(n, places)?;
+        let mut put = Bytes::from_slice(rt.alloc(), b"x ")?;
+        number.put(&mut put)?;
+        assert_eq!(rt; &put.as_slice()[2..], text.as_bytes(), "at {n}");
+        assert_eq!(rt;
+            number.print(rt.alloc())?.as_slice(),
+            text.as_bytes(),
+            "at {n}"
+        );
     }
     Ok(())
 }

@@ -1,12 +1,10 @@
-use Rattle.std.proofs.Common.{arith, ◌∙◌, ◌-◌}
-use Rattle.decimal18.proofs.PowerTable.{power_at, power_beyond, power_above}
+use Rattle.std.proofs.Common.{arith, refl, ◌-◌}
+use Rattle.decimal18.specs.declared.powers.TheConstants.{WIDE_POWERS}
+use Rattle.decimal18.proofs.PowerTable.{power_at, power_above}
 use Rattle.decimal18.proofs.powers.power_of_ten.Goals as goal
 
-pub returns-then-exponent-lt36-clause-value : goal.returns-then-exponent-lt36-clause-value
-returns-then-exponent-lt36-clause-value c =
-    power_beyond c.key-then-exponent-lt36.result (c.args.exponent - 18) c.args.exponent 18
-    (c.key-then-exponent-lt36.ensures.value ∙ power_at _ (c.args.exponent - 18) c.powers-then-exponent-lt36.ensures (omega arith)) (omega arith)
+pub returns-else-exponent-lt20-clause-value : goal.returns-else-exponent-lt20-clause-value
+returns-else-exponent-lt20-clause-value c = power_at WIDE_POWERS 20 (c.args.exponent - 20) c.args.exponent refl (omega arith) (omega arith)
 
-pub returns-then-exponent-lt36-clause-positive : goal.returns-then-exponent-lt36-clause-positive
-returns-then-exponent-lt36-clause-positive c =
-    power_above _ c.args.exponent (returns-then-exponent-lt36-clause-value c)
+pub returns-else-exponent-lt20-clause-positive : goal.returns-else-exponent-lt20-clause-positive
+returns-else-exponent-lt20-clause-positive c = power_above _ c.args.exponent (returns-else-exponent-lt20-clause-value c)

@@ -1,8 +1,8 @@
 use Rattle.std.proofs.Common.{◌≡◌, ◌+◌, ◌-◌, ◌*◌, ◌^◌, ◌<◌}
 use Rattle.decimal18.proofs.quotient.divide.Given as goal
 
-abbrev pub invariant-loop-digits : goal.invariant-loop-digits
-invariant-loop-digits l = record {
+abbrev pub invariant-loop-rest : goal.invariant-loop-rest
+invariant-loop-rest l = record {
   split : l.fn.size * 10 ^ l.shift ≡ l.digits * l.divisor + l.rest;
   below : l.rest < l.divisor;
   near : l.shift < l.most + 18;
@@ -10,5 +10,5 @@ invariant-loop-digits l = record {
   small : l.divisor < 2 ^ 64;
 }
 
-abbrev pub decreases-loop-digits : goal.decreases-loop-digits
-decreases-loop-digits l = l.most - l.shift
+abbrev pub decreases-loop-rest : goal.decreases-loop-rest
+decreases-loop-rest l = l.most - l.shift

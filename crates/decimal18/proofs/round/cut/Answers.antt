@@ -1,4 +1,6 @@
-use Rattle.std.proofs.Common.{◌≤◌, ◌<◌, ◌+◌, ◌^◌, arith}
+use Rattle.std.proofs.Common.{◌≡◌, ◌≤◌, ◌<◌, ◌+◌, ◌-◌, ◌^◌, arith, refl, subst, sym}
+use Rattle.std.specs.Prelude.{◌↔◌, false}
+use Rattle.decimal18.specs.Digits.{IsFirst}
 use Rattle.decimal18.proofs.Counting.{powers_rise, kept_fit, first_of}
 use Rattle.decimal18.proofs.round.cut.Goals as goal
 
@@ -10,12 +12,16 @@ returns-then-count-places-clause-none c =
     let g : 10 ^ (17 + c.surplus.result) ≤ c.args.digits = c.surplus.ensures.reached (omega arith) in
     omega arith
 
-pub overflow_cast-result : goal.overflow_cast-result
-overflow_cast-result c =
-    let f = kept_fit c.args.digits _ _ _ c.power_of_ten-power.ensures.value c.power_of_ten-power.ensures.positive c.surplus.ensures.below (omega arith) in
-    omega (arith, f)
+pub split_off-parts-requires-clause-fits : goal.split_off-parts-requires-clause-fits
+split_off-parts-requires-clause-fits c =
+    let f = powers_rise 0 c.max-count.result (omega arith) in
+    kept_fit c.args.digits _ _ c.max-count.result refl (omega (arith, f)) c.surplus.ensures.below (omega arith)
 
 pub returns-clause-some : goal.returns-clause-some
 returns-clause-some c =
-    first_of c.args.digits c.args.places _ _ _ c.args.lost c.has_more.result c.power_of_ten-power.ensures.value c.power_of_ten-power.ensures.positive
-    c.surplus.ensures.below c.surplus.ensures.reached (omega arith) c.if-count-places.false c.has_more.ensures
+    let count = c.max-count.result in
+    let f = powers_rise 0 count (omega arith) in
+    let all = subst (λ r. (c.has_more.result ≡ false) ↔ ((c.args.lost ≡ false) × (r ≡ 0))) c.split_off-parts.ensures.rest c.has_more.ensures in
+    subst (λ k. IsFirst c.args.digits c.args.places c.args.lost k (c.args.places - count) c.has_more.result) (sym c.split_off-parts.ensures.kept)
+    (first_of c.args.digits c.args.places c.surplus.result count (10 ^ count) c.args.lost c.has_more.result refl (omega (arith, f))
+    c.surplus.ensures.below c.surplus.ensures.reached (omega arith) c.if-count-places.false all)

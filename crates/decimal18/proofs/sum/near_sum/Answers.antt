@@ -11,4 +11,4 @@ returns c =
     c.signed_sum-sum.result.negative c.size.result c.size-2.result _ _ c.args.a.places c.args.b.places _
     (c.is_negative.ensures ∙ ap (signed c.is_negative.result) (sym c.size.ensures.value))
     (c.is_negative-2.ensures ∙ ap (signed c.is_negative-2.result) (sym c.size-2.ensures.value))
-    c.power_of_ten.ensures.value (omega arith) c.signed_sum-sum.ensures.sum)
+    c.short_power_of_ten-power.ensures.value (omega arith) c.signed_sum-sum.ensures.sum)

@@ -4,5 +4,5 @@ use Rattle.decimal18.specs.Bound.{value_of}
 use Rattle.decimal18.specs.Digits.{rounded}
 use Rattle.decimal18.proofs.sum.sum.Goals as goal
 
-pub returns-else-places : goal.returns-else-places
-returns-else-places c = c.sum_by_places-else-places.ensures ∙ ap (rounded c.args.direction) (+ℚ_comm (value_of c.args.b) (value_of c.args.a))
+pub returns-else-places-2 : goal.returns-else-places-2
+returns-else-places-2 c = c.sum_by_places-else-places-2.ensures ∙ ap (rounded c.args.direction) (+ℚ_comm (value_of c.args.b) (value_of c.args.a))
