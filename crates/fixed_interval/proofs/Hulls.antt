@@ -1,7 +1,6 @@
 -- The span that covers two rounded spans is that of the least of their least results and the greatest
 -- of their greatest ones, and there is none exactly where one of the two is out of range.
 use Rattle.std.specs.Prelude.{◌≡◌, Option, None, Some, refl}
-use Rattle.std.proofs.Common.{ap₂, ◌∙◌}
 use Rattle.exact_fraction.specs.Number.{ℚ, ◌≤ℚ◌, min_ℚ, max_ℚ}
 use Rattle.exact_fraction.specs.NumberLaws.{≤ℚ_refl, ≤ℚ_trans}
 use Rattle.decimal18.specs.Bound.{Bound, value_of}
@@ -10,7 +9,6 @@ use Rattle.decimal18.proofs.Rounding.{down_some}
 use Rattle.decimal18.proofs.Upward.{up_some}
 use Rattle.fixed_interval.specs.Interval.{Interval, IsOrdered, outward}
 use Rattle.fixed_interval.specs.Extremes.{lesser, greater, hull}
-use Rattle.fixed_interval.specs.Rules.{corners_span}
 use Rattle.fixed_interval.proofs.Enclosures.{outward_ends, no_span}
 use Rattle.exact_fraction.proofs.Extremes.{min-≤_left, min-≤_right, max-≥_left, max-≥_right}
 use Rattle.fixed_interval.proofs.Least.{down-min, up-max, lesser-≤_left, greater-≥_left}
@@ -51,17 +49,12 @@ by_parts x y x' y' h k (Some s) (Some t) e f =
 pub outward-hull : (x y x' y' : ℚ) → x ≤ℚ y → x' ≤ℚ y' → outward (min_ℚ x x') (max_ℚ y y') ≡ hull (outward x y) (outward x' y')
 outward-hull x y x' y' h k = by_parts x y x' y' h k (outward x y) (outward x' y') refl refl
 
-min-≤-max : (x y : ℚ) → min_ℚ x y ≤ℚ max_ℚ x y
+pub min-≤-max : (x y : ℚ) → min_ℚ x y ≤ℚ max_ℚ x y
 min-≤-max x y = ≤ℚ_trans _ _ _ (min-≤_left x y) (max-≥_left x y)
 
--- two corners, and four
+-- two corners
 pub two_corners : (p q : ℚ) → outward (min_ℚ p q) (max_ℚ p q) ≡ hull (outward p p) (outward q q)
 two_corners p q = outward-hull p p q q (≤ℚ_refl p) (≤ℚ_refl q)
-
-pub four_corners : (p q r s : ℚ) → corners_span p q r s ≡ hull (hull (outward p p) (outward q q)) (hull (outward r r) (outward s s))
-four_corners p q r s =
-    outward-hull (min_ℚ p q) (max_ℚ p q) (min_ℚ r s) (max_ℚ r s) (min-≤-max p q) (min-≤-max r s)
-    ∙ ap₂ hull (two_corners p q) (two_corners r s)
 
 -- the ends of a span that covers two are in order
 pub hull_in_order : (s t : Interval) → IsOrdered s → value_of (lesser s.lo t.lo) ≤ℚ value_of (greater s.hi t.hi)

@@ -157,6 +157,13 @@ coefficient_not_zero b h e = true≢false (sym (ap is_zero_ℤ e) ∙ h)
 pub ends_not_zero : (s : Interval) → holds_zero s ≡ false → IsOrdered s → (is_zero_ℚ (value_of s.lo) ≡ false) × (is_zero_ℚ (value_of s.hi) ≡ false)
 ends_not_zero s z o = (not_zero s z _ (low_end s o), not_zero s z _ (high_end s o))
 
+-- the upper end has the lesser inverse
+pub inverses_in_order : (s : Interval) → holds_zero s ≡ false → IsOrdered s → inv_ℚ (value_of s.hi) ≤ℚ inv_ℚ (value_of s.lo)
+inverses_in_order s z o =
+    let low : Encloses s (value_of s.lo) = low_end s o in
+    let high : Encloses s (value_of s.hi) = high_end s o in
+    inverse_falls _ _ (not_zero s z _ low) (not_zero s z _ high) (same_side s (one_side s z) _ _ low high) o.ordered
+
 quotient_span_encloses : (a b s : Interval) → holds_zero b ≡ false → quotient_span a b ≡ Some s
     → (q r : ℚ) → Encloses a q → Encloses b r → Encloses s (q /ℚ r)
 quotient_span_encloses a b s z e q r h k =

@@ -3,6 +3,10 @@ pub mod Least
 pub mod Hulls
 pub mod Inclusions
 pub mod Squares
+pub mod Signs
+pub mod Sides
+pub mod ExactSpans
+pub mod PointZero
 pub mod Raising
 pub mod Negatives
 pub mod Shares

@@ -1,6 +1,6 @@
 // What operations on spans do with single ends.
-ghost use Rattle.std.specs.Prelude.{◌≡◌};
-ghost use Rattle.exact_fraction.specs.Number.{is_at_most_ℚ};
+ghost use Rattle.std.specs.Prelude.{◌≡◌, pos};
+ghost use Rattle.exact_fraction.specs.Number.{is_at_most_ℚ, of_ℤ};
 ghost use Rattle.decimal18.specs.Bound.{value_of};
 ghost use Rattle.fixed_interval.specs.Extremes.{greater, lesser};
 
@@ -27,4 +27,18 @@ pub fn greater(a: Dec, b: Dec) -> Dec
     ensures { result ≡ greater a b }
 {
     if is_at_most(a, b) { b } else { a }
+}
+
+/// Whether 0 is at most `a`.
+pub(crate) fn is_not_negative(a: Dec) -> bool
+    ensures { result ≡ is_at_most_ℚ (of_ℤ (pos 0)) (value_of a) }
+{
+    a.coefficient() >= 0
+}
+
+/// Whether `a` is at most 0.
+pub(crate) fn is_not_positive(a: Dec) -> bool
+    ensures { result ≡ is_at_most_ℚ (value_of a) (of_ℤ (pos 0)) }
+{
+    a.coefficient() <= 0
 }

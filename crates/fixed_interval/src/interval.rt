@@ -1,4 +1,4 @@
-ghost use Rattle.std.specs.Prelude.{◌≡◌, ◌+◌, if◌then◌else◌, [], ◌∷◌, Option, Some, is_some, IfOk};
+ghost use Rattle.std.specs.Prelude.{◌≡◌, ◌+◌, true, if◌then◌else◌, [], ◌∷◌, Option, Some, is_some, IfOk};
 ghost use Rattle.std.specs.Option.{ForSome, ok_or};
 ghost use Rattle.exact_fraction.specs.Number.{ℚ, ◌+ℚ◌, neg_ℚ, ◌≤ℚ◌};
 ghost use Rattle.decimal18.specs.Bound.{value_of};
@@ -6,9 +6,10 @@ ghost use Rattle.fixed_interval.specs.Interval.{Encloses, IsOrdered, from_ends, 
 ghost use Rattle.fixed_interval.specs.Rules.{zero_bound, difference_span, negative_span};
 ghost use Rattle.fixed_interval.specs.Sums.{Continues, sum_after};
 
+use crate::corners::sums;
 use crate::counter::Steps;
 use crate::faults::Overflow;
-use decimal18::{Dec, add_down, add_up, sub_down, sub_up};
+use decimal18::{Dec, sub_down, sub_up};
 use std::marker::Model;
 use std::sync::ledger::Ledger;
 
@@ -54,6 +55,23 @@ impl Span {
         ensures { result ≡ record { lo = lo; hi = hi } }
     {
         Span { lo, hi }
+    }
+
+    // The span of one number.
+    pub(crate) fn at(number: Dec) -> Span
+        ensures { result ≡ point_span number }
+    {
+        Span {
+            lo: number,
+            hi: number,
+        }
+    }
+
+    // Whether the ends are one number.
+    pub(crate) fn is_point(&self) -> bool
+        ensures { result ≡ true → self.now.lo ≡ self.now.hi }
+    {
+        self.lo == self.hi
     }
 
     // The span of two rounded ends, where both are there.
@@ -110,7 +128,7 @@ pub fn add<L: Ledger>(a: &Span, b: &Span, steps: &mut Steps<L>) -> Result<Span, 
     ensures ticks { steps.new ≡ steps.old + 1 }
 {
     steps.tick();
-    Span::from_ends(add_down(a.lo, b.lo), add_up(a.hi, b.hi)).ok_or(Overflow)
+    sums(a, b).ok_or(Overflow)
 }
 
 /// The sum with one term more, which is the sum itself where it is the first one. It ticks once where a

@@ -5,6 +5,9 @@
 mod bounds;
 mod corners;
 mod counter;
+#[cfg(test)]
+mod edge_tests;
+mod exact;
 mod faults;
 mod interval;
 mod laws;

@@ -43,7 +43,7 @@ pub fn sqr<L: Ledger>(a: &Span, steps: &mut Steps<L>) -> Result<Span, Overflow>
     if holds_zero(a) {
         return hull(squares(a), Some(zero())).ok_or(Overflow);
     }
-    squares(a).ok_or(Overflow)
+    products(a, a).ok_or(Overflow)
 }
 
 /// The span of the quotients of a number in `a` by a number in `b`, its ends rounded outwards. It

@@ -11,7 +11,7 @@ returns-then-holds_zero-clause-encloses g c = λ q h.
     answer_has _ _ _ (returns-then-holds_zero-clause-span g c) _ (λ s e. square_span_encloses _ s e q h)
 
 pub returns-clause-span : goal.returns-clause-span
-returns-clause-span g c = let e = square_without_zero c.args.a.now (cc) in cc
+returns-clause-span g c = let e = square_without_zero c.args.a.now c.holds_zero.ensures.ordered (cc) in cc
 
 pub returns-clause-encloses : goal.returns-clause-encloses
 returns-clause-encloses g c = λ q h. answer_has _ _ _ (returns-clause-span g c) _ (λ s e. square_span_encloses _ s e q h)
