@@ -1,22 +1,25 @@
 -- What a row uses, and its partial derivatives, which depend on what it uses alone.
-use Rattle.std.specs.Prelude.{◌≡◌, ℕ, zero, suc, ◌+◌, ◌≤◌, ◌<◌, Bool, true, false, nat_eq, if◌then◌else◌, List, [], ◌∷◌, map, find, drop, get_or, length, Option, None, Some, Result, Ok, Err, refl}
-use Rattle.std.specs.Option.{ok_or}
+use Rattle.std.specs.Prelude.{◌≡◌, ℕ, zero, suc, ◌+◌, ◌≤◌, ◌<◌, Bool, true, false, nat_eq, if◌then◌else◌, List, [], ◌∷◌, map, find, drop, get_or, length, is_some, Option, None, Some, Result, Ok, Err, refl}
+use Rattle.std.specs.Option.{ok_or, option_or}
 use Rattle.std.proofs.Common.{arith, sym, ◌∙◌, ap, ap₂}
 use Rattle.std.proofs.lemmas.List.{drop_all}
 use Rattle.fixed_interval.specs.Interval.{Interval}
 use Rattle.fixed_interval.specs.Sums.{zero_span}
 use Rattle.fixed_interval.specs.declared.faults.Overflow.{Overflow}
 use Rattle.dep_graph.specs.Nodes.{has}
-use Rattle.formula_ast.specs.Trees.{Tree, names_of}
-use Rattle.formula_box.specs.Values.{Answer}
+use Rattle.formula_ast.specs.Trees.{Tree, names_of, uses}
+use Rattle.formula_box.specs.Values.{Answer, span_of}
 use Rattle.formula_box.specs.Slopes.{partial_of, there}
-use Rattle.formula_box.specs.declared.fault.EvalFault.{EvalFault}
+use Rattle.formula_box.specs.Parts.{has_value}
+use Rattle.formula_box.specs.declared.fault.EvalFault.TheVariants.{Arith, NoValue}
 use Rattle.value_cache.specs.Quantities.{Body, Input, Function, Column}
-use Rattle.value_cache.specs.Evaluations.{Found, span_in}
-use Rattle.value_cache.specs.Rules.{uses_of as used_of}
+use Rattle.value_cache.specs.Evaluations.{Found, Named, span_in, is_fault, first_fault, settled, evaluation_of_formula}
+use Rattle.value_cache.specs.Rules.{Bodies, AreRight, cell_by, uses_of as used_of}
+use Rattle.value_cache.specs.declared.evaluation.Evaluation.{Evaluation}
+use Rattle.value_cache.specs.declared.evaluation.Evaluation.TheVariants.{Enclosed, Fault}
 use Rattle.value_cache.specs.Slots.{key_by, span_through, IsNumbered}
 use Rattle.value_cache.proofs.Rules.{AllNames-used}
-use Rattle.value_cache.proofs.Numbers.{numbers-named, spans-through}
+use Rattle.value_cache.proofs.Numbers.{numbers-named, spans-through, span_of-through}
 use Rattle.adjoint_pass.specs.Sensitivities.{uses_of, part_of}
 use Rattle.adjoint_pass.specs.Gathering.{name_beside, part_in}
 use Rattle.adjoint_pass.proofs.Formulas.{partial_same}
@@ -95,12 +98,52 @@ by_name cells f names ids h n name r e p =
     let some : find (λ m. nat_eq (key_by names ids m) n) (names_of f) ≡ Some name = sym (beside_is f names ids h n) ∙ sym e in
     rw some (sym (ap there p ∙ through_is cells f names ids h name))
 
-pub named_there : (cells : Found ℕ) (f : Tree) (names : List (List ℕ)) (ids : List ℕ) → IsNumbered f names ids → (n : ℕ) (name : List ℕ) (s : Interval)
-    → Some name ≡ name_beside names ids n → Ok s ≡ partial_of (λ m. span_through names ids cells m) name f
-    → ◌≡◌ {A = Result Interval Overflow} (Ok s) (ok_or (part_of nat_eq (λ k. span_in (cells k)) (Function f (key_by names ids)) n) (record {}))
-named_there cells f names ids h n name s e p = rw (by_name cells f names ids h n name (Ok s) e p) refl
+pub named : (cells : Found ℕ) (f : Tree) (names : List (List ℕ)) (ids : List ℕ) → IsNumbered f names ids → (n : ℕ) (name : List ℕ) (r : Result Interval Overflow)
+    → Some name ≡ name_beside names ids n → r ≡ ok_or (there (partial_of (λ m. span_through names ids cells m) name f)) (record {})
+    → r ≡ ok_or (part_of nat_eq (λ k. span_in (cells k)) (Function f (key_by names ids)) n) (record {})
+named cells f names ids h n name r e p = p ∙ ap (λ o. ok_or o (record {})) (sym (by_name cells f names ids h n name _ e refl))
 
-pub named_missing : (cells : Found ℕ) (f : Tree) (names : List (List ℕ)) (ids : List ℕ) → IsNumbered f names ids → (n : ℕ) (name : List ℕ) (fault : EvalFault)
-    → Some name ≡ name_beside names ids n → Err fault ≡ partial_of (λ m. span_through names ids cells m) name f
-    → ◌≡◌ {A = Result Interval Overflow} (Err (record {})) (ok_or (part_of nat_eq (λ k. span_in (cells k)) (Function f (key_by names ids)) n) (record {}))
-named_missing cells f names ids h n name fault e p = rw (by_name cells f names ids h n name (Err fault) e p) refl
+-- ---- the row of a quantity that has a span
+no_span_at : (o : Option (Evaluation ℕ)) (s : Interval) → (if is_fault o then o else None) ≡ Some (Enclosed s) → ⊥
+no_span_at None s e = cc
+no_span_at (Some (Fault fault row)) s e = cc
+no_span_at (Some (Enclosed t)) s e = cc
+
+no_span_next : (o : Option (Evaluation ℕ)) (t : Bool) (rest : Option (Evaluation ℕ)) (s : Interval) → ((if t then o else None) ≡ Some (Enclosed s) → ⊥)
+    → (rest ≡ Some (Enclosed s) → ⊥) → option_or (if t then o else None) rest ≡ Some (Enclosed s) → ⊥
+no_span_next None true rest s h k e = k e
+no_span_next None false rest s h k e = k e
+no_span_next (Some cell) true rest s h k e = h e
+no_span_next (Some cell) false rest s h k e = k e
+
+no_span_among : (found : Named ℕ) (ns : List (List ℕ)) (s : Interval) → first_fault found ns ≡ Some (Enclosed s) → ⊥
+no_span_among found [] s e = cc
+no_span_among found (n ∷ ns) s e =
+    no_span_next (found n) (is_fault (found n)) (first_fault found ns) s (no_span_at (found n) s) (no_span_among found ns s) e
+
+settled_value : (found : Named ℕ) (row : ℕ) (f : Tree) (r : Answer) (s : Interval) → settled found row f r ≡ Some (Enclosed s) → is_some (there r) ≡ true
+settled_value found row f (Ok t) s e = refl
+settled_value found row f (Err (Arith fault)) s e = absurd (cc)
+settled_value found row f (Err (NoValue k)) s e = absurd (no_span_among found (uses f) s e)
+
+found_value : (cells : Found ℕ) (row : ℕ) (f : Tree) (key : List ℕ → ℕ) (t : Bool) (s : Interval)
+    → (if t then evaluation_of_formula (λ n. cells (key n)) row f else None) ≡ Some (Enclosed s)
+    → is_some (there (span_of (λ n. span_in (cells (key n))) f)) ≡ true
+found_value cells row f key true s e = settled_value (λ n. cells (key n)) row f _ s e
+found_value cells row f key false s e = absurd (cc)
+
+cell_value : (cells : Found ℕ) (row : ℕ) (f : Tree) (key : List ℕ → ℕ) (s : Interval) → cell_by cells row (Some (Function f key)) ≡ Some (Enclosed s)
+    → is_some (there (span_of (λ n. span_in (cells (key n))) f)) ≡ true
+unfolding cell_by
+cell_value cells row f key s e = found_value cells row f key _ s e
+
+pub row_value : (bodies : Bodies) (cells : Found ℕ) → AreRight bodies cells → (m : ℕ) (f : Tree) (names : List (List ℕ)) (ids : List ℕ) → IsNumbered f names ids
+    → bodies m ≡ Some (Function f (key_by names ids)) → is_some (span_in (cells m)) ≡ true
+    → has_value (λ k. span_through names ids cells k) f ≡ true
+row_value bodies cells right m f names ids h body some = by (cells m) refl some where
+  by : (o : Option (Evaluation ℕ)) → cells m ≡ o → is_some (span_in o) ≡ true → has_value (λ k. span_through names ids cells k) f ≡ true
+  by None e k = absurd (cc)
+  by (Some (Fault fault row)) e k = absurd (cc)
+  by (Some (Enclosed s)) e k =
+      ap (λ r. is_some (there r)) (span_of-through cells f names ids h)
+      ∙ cell_value cells m f (key_by names ids) s (ap (cell_by cells m) (sym body) ∙ right.each m (Enclosed s) e)

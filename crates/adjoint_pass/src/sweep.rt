@@ -5,11 +5,12 @@ ghost use Rattle.dep_graph.specs.Reaching.{IsCone};
 ghost use Rattle.fixed_interval.specs.Sums.{sum_of, Continues};
 ghost use Rattle.formula_ast.specs.Views.{tree_of};
 ghost use Rattle.formula_box.specs.Costs.{partial_cost};
+ghost use Rattle.formula_box.specs.Slopes.{there, partial_of};
 ghost use Rattle.covariance.specs.Gradients.{found_at};
 ghost use Rattle.value_cache.specs.Quantities.{Function};
 ghost use Rattle.value_cache.specs.Evaluations.{span_in};
 ghost use Rattle.value_cache.specs.Rules.{AreRight, IsGraphOf, numbered};
-ghost use Rattle.value_cache.specs.Slots.{bodies_of, cells_of, key_by, IsNumbered};
+ghost use Rattle.value_cache.specs.Slots.{bodies_of, cells_of, key_by, span_through, IsNumbered};
 ghost use Rattle.value_cache.specs.declared.evaluation.Evaluation.TheVariants.{Fault};
 ghost use Rattle.adjoint_pass.specs.Sensitivities.{part_of, has_gradient, gradient_of};
 ghost use Rattle.adjoint_pass.specs.Costs.{part_cost, term_cost, gradient_cost};
@@ -18,10 +19,10 @@ ghost use Rattle.adjoint_pass.specs.Gathering.{name_beside, part_at, term_at, fo
 use crate::fault::GradFault;
 use covariance::Gradient;
 use decimal18::Dec;
-use dep_graph::{Graph, Id, IdList, cones_are_lists};
+use dep_graph::{Graph, Id, cones_are_lists};
 use fixed_interval::{ArithFault, Overflow, Span, Steps, mul, point, with_term, zero};
-use formula_ast::{Formula, Name, NameList};
-use formula_box::partial;
+use formula_ast::{Formula, Name};
+use formula_box::{partial, partial_where_defined};
 use std::alloc::Global;
 use std::sync::ledger::Ledger;
 use value_cache::{Body, Cache, Evaluation, Through};
@@ -38,27 +39,57 @@ fn name_beside(names: &[Name], ids: &[Id], n: Id) -> Option<Name>
     None
 }
 
-// The partial derivative of a formula by a quantity, where one of its names stands for that.
-fn formula_part<L: Ledger>(
+// Whether the quantity has a span.
+fn has_span(cache: &Cache, m: Id) -> bool
+    ensures span { result ≡ is_some (span_in (cells_of cache.now m)) }
+    ensures right { AreRight (bodies_of cache.now) (cells_of cache.now) }
+{
+    let Some(evaluation) = cache.peek(m) else {
+        return false;
+    };
+    evaluation.span().is_some()
+}
+
+// The partial derivative of the formula of `m` by one of its names. Where `m` has a span its formula has a value, which
+// is not found again.
+fn partial_by<L: Ledger>(
     formula: &Formula,
-    names: &NameList,
-    ids: &IdList,
-    cache: &Cache,
-    n: Id,
+    name: &Name,
+    through: &Through,
+    m: Id,
     steps: &mut Steps<L>,
 ) -> Result<Span, Overflow>
-    requires numbered { IsNumbered (tree_of formula.now) names.now ids.now }
-    ensures span { result ≡ ok_or (part_of nat_eq (λ k. span_in (cells_of cache.now k)) (Function (tree_of formula.now) (key_by names.now ids.now)) n) (record {}) }
+    requires numbered { IsNumbered (tree_of formula.now) through.now.names.now through.now.ids.now }
+    requires row { bodies_of through.now.cache.now m ≡ Some (Function (tree_of formula.now) (key_by through.now.names.now through.now.ids.now)) }
+    ensures span { result ≡ ok_or (there (partial_of (λ k. span_through through.now.names.now through.now.ids.now (cells_of through.now.cache.now) k) name.now (tree_of formula.now))) (record {}) }
     ensures ticks { steps.new ≤ steps.old + partial_cost (tree_of formula.now) }
 {
-    let Some(name) = name_beside(names.as_slice(), ids.as_slice(), n) else {
-        return Ok(zero());
-    };
-    let through = Through { names, ids, cache };
-    let Ok(part) = partial(formula, &name, &through, steps) else {
+    if has_span(through.cache, m) {
+        return partial_where_defined(formula, name, through, steps);
+    }
+    let Ok(part) = partial(formula, name, through, steps) else {
         return Err(Overflow);
     };
     Ok(part)
+}
+
+// The partial derivative of the formula of `m` by a quantity, where one of its names stands for that.
+fn formula_part<L: Ledger>(
+    formula: &Formula,
+    through: &Through,
+    m: Id,
+    n: Id,
+    steps: &mut Steps<L>,
+) -> Result<Span, Overflow>
+    requires numbered { IsNumbered (tree_of formula.now) through.now.names.now through.now.ids.now }
+    requires row { bodies_of through.now.cache.now m ≡ Some (Function (tree_of formula.now) (key_by through.now.names.now through.now.ids.now)) }
+    ensures span { result ≡ ok_or (part_of nat_eq (λ k. span_in (cells_of through.now.cache.now k)) (Function (tree_of formula.now) (key_by through.now.names.now through.now.ids.now)) n) (record {}) }
+    ensures ticks { steps.new ≤ steps.old + partial_cost (tree_of formula.now) }
+{
+    let Some(name) = name_beside(through.names.as_slice(), through.ids.as_slice(), n) else {
+        return Ok(zero());
+    };
+    partial_by(formula, &name, through, m, steps)
 }
 
 // The partial derivative of the row of `m` by the quantity `n`.
@@ -72,7 +103,10 @@ fn part<L: Ledger>(cache: &Cache, m: Id, n: Id, steps: &mut Steps<L>) -> Result<
             formula,
             names,
             ids,
-        } => formula_part(formula, names, ids, cache, n, steps),
+        } => {
+            let through = Through { names, ids, cache };
+            formula_part(formula, &through, m, n, steps)
+        }
         Body::Point(_) | Body::Column(..) => Ok(zero()),
     }
 }
@@ -185,8 +219,8 @@ fn sweep<L: Ledger>(
 /// `graph` is that of the cache's bodies.
 ///
 /// Each is the sum of what the quantity's users bring to it, so that rows are gone through from users to what they
-/// use. Of a row, the partial derivatives by its several names are found one at a time, each with the values of the row
-/// again: `gradient_cost` counts them so.
+/// use. Of a row, the partial derivatives by its several names are found one at a time, each with those values of the
+/// row's parts again for which its rules ask: `gradient_cost` counts as if they asked for all.
 ///
 /// # Errors
 ///

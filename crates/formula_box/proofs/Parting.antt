@@ -1,13 +1,14 @@
 -- The value and the derivative of a part of a formula, from those of its operands.
-use Rattle.std.specs.Prelude.{◌≡◌, ℕ, ℤ, ◌||◌, List, Option, Some, None, Ok, Err, refl}
+use Rattle.std.specs.Prelude.{◌≡◌, ℕ, ℤ, true, ◌||◌, List, Option, Some, None, Ok, Err, is_some, refl}
 use Rattle.std.proofs.Common.{sym, ◌∙◌, ap, ap₂}
 use Rattle.fixed_interval.specs.Interval.{Interval}
 use Rattle.fixed_interval.specs.Powers.{power, then_span}
 use Rattle.formula_ast.specs.Trees.{Tree, Number, Variable, Opposite, Joined, Raised}
 use Rattle.formula_ast.specs.declared.token.Sign.{Sign}
 use Rattle.formula_box.specs.Values.{Answer, then_with, arithmetic, used, use_after, joined_span, span_from, span_of, in_range}
-use Rattle.formula_box.specs.Slopes.{there, where_used, joined_slope, power_slope, partial_of}
-use Rattle.formula_box.specs.Parts.{IsPartOf}
+use Rattle.formula_box.specs.Slopes.{there, where_used, power_slope, partial_of}
+use Rattle.formula_box.specs.Parts.{IsPartOf, has_value, AllHaveValues, short_slope}
+use Rattle.formula_box.proofs.Absent.{short_slope_is}
 use Rattle.formula_box.specs.declared.fault.EvalFault.{EvalFault}
 use Rattle.formula_box.specs.declared.fault.EvalFault.TheVariants.{Arith}
 use Rattle.fixed_interval.specs.declared.faults.ArithFault.TheVariants.{Overflow}
@@ -50,12 +51,44 @@ pub there_is : (given : List ℕ → Option Interval) (k : ℕ) (f : Tree) (s : 
 unfolding span_of
 there_is given k f s e = there-from given 0 k f ∙ ap there e
 
+-- ---- parts of a formula that has a value
+value_then : (r : Answer) (next : Interval → Answer) → is_some (there (then_with r next)) ≡ true → is_some (there r) ≡ true
+value_then (Err fault) next h = absurd (cc)
+value_then (Ok s) next h = refl
+
+value_next : (r q : Answer) (next : Interval → Interval → Answer) → is_some (there (then_with r (λ x. then_with q (next x)))) ≡ true
+    → is_some (there q) ≡ true
+value_next (Err fault) q next h = absurd (cc)
+value_next (Ok s) q next h = value_then q (next s) h
+
+value_from_right : (given : List ℕ → Option Interval) (s : Sign) (a b : Tree) → has_value given (Joined s a b) ≡ true → has_value given b ≡ true
+unfolding span_of
+value_from_right given s a b h =
+    ap is_some (there-from given 0 (use_after 0 a) b)
+    ∙ value_next (span_from given 0 a) (span_from given (use_after 0 a) b) (λ x y. joined_span s x y) h
+
+pub all_values : (given : List ℕ → Option Interval) (f : Tree) → has_value given f ≡ true → AllHaveValues given f
+unfolding span_of
+all_values given (Number q) h = h
+all_values given (Variable n) h = h
+all_values given (Opposite a) h = (h, all_values given a (value_then (span_from given 0 a) _ h))
+all_values given (Joined s a b) h =
+    (h, (all_values given a (value_then (span_from given 0 a) _ h), all_values given b (value_from_right given s a b h)))
+all_values given (Raised a e) h = (h, all_values given a (value_then (span_from given 0 a) _ h))
+
+pub own_value : (given : List ℕ → Option Interval) (f : Tree) → AllHaveValues given f → has_value given f ≡ true
+own_value given (Number q) h = h
+own_value given (Variable n) h = h
+own_value given (Opposite a) h = h.0
+own_value given (Joined s a b) h = h.0
+own_value given (Raised a e) h = h.0
+
+-- ---- the whole from its operands
 pub joined_part : (given : List ℕ → Option Interval) (n : List ℕ) (k j : ℕ) (s : Sign) (a b : Tree) (p q r : Part)
     → IsPartOf given n k a (Ok p) → j ≡ use_after k a → IsPartOf given n j b (Ok q)
     → Ok r.value ≡ joined_span s p.value q.value
     → r.slope.used ≡ (p.slope.used || q.slope.used)
-    → r.slope.span ≡ where_used (p.slope.used || q.slope.used)
-    (joined_slope s (Some p.value) (Some q.value) (Some r.value) p.slope.span q.slope.span)
+    → r.slope.span ≡ short_slope s p.slope.used q.slope.used (Some p.value) (Some q.value) (Some r.value) p.slope.span q.slope.span
     → IsPartOf given n k (Joined s a b) (Ok r)
 joined_part given n k j s a b p q r left after right value used span =
     let is : span_from given k (Joined s a b) ≡ Ok r.value =
@@ -71,7 +104,7 @@ joined_part given n k j s a b p q r left after right value used span =
           right.1.0,
           left.1.1,
           right.1.1,
-        ) refl,
+        ) (short_slope_is given n s a b (Some p.value) (Some q.value) (Some r.value) refl refl refl),
       ),
     )
 

@@ -40,7 +40,7 @@ pub fn partial<E: Env, L: Ledger>(
 }
 
 // The value and the derivative of a part of a formula, whose uses of names begin with use `uses`.
-fn part_from<E: Env, L: Ledger>(
+pub(crate) fn part_from<E: Env, L: Ledger>(
     f: &Formula,
     by: &Name,
     env: &E,
@@ -65,21 +65,21 @@ fn part_from<E: Env, L: Ledger>(
         Formula::Neg(a) => {
             let a = part_from(a, by, env, uses, steps)?;
             let value = neg(&a.value, steps);
-            let slope = slope_of_opposite(&a, steps);
+            let slope = slope_of_opposite(&a.slope, steps);
             Ok(Part { value, slope })
         }
         Formula::Add(a, b) => {
             let a = part_from(a, by, env, uses, steps)?;
             let b = part_from(b, by, env, uses, steps)?;
             let value = sum(&a.value, &b.value, steps)?;
-            let slope = slope_of_sum(&a, &b, steps);
+            let slope = slope_of_sum(&a.slope, &b.slope, steps);
             Ok(Part { value, slope })
         }
         Formula::Sub(a, b) => {
             let a = part_from(a, by, env, uses, steps)?;
             let b = part_from(b, by, env, uses, steps)?;
             let value = difference(&a.value, &b.value, steps)?;
-            let slope = slope_of_difference(&a, &b, steps);
+            let slope = slope_of_difference(&a.slope, &b.slope, steps);
             Ok(Part { value, slope })
         }
         Formula::Mul(a, b) => {

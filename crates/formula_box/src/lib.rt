@@ -1,6 +1,7 @@
 //! Formulas over spans: the span of a formula's value, and that of its derivative by a name.
 #![tactic(auto)]
 
+mod defined;
 mod differentiation;
 mod evaluation;
 mod factor;
@@ -13,6 +14,7 @@ mod slope;
 mod tests;
 mod worked;
 
+pub use defined::partial_where_defined;
 pub use differentiation::partial;
 pub use evaluation::eval;
 pub use fault::EvalFault;

@@ -7,7 +7,8 @@ ghost use Rattle.fixed_interval.specs.Powers.{then_span, steps_of_power};
 ghost use Rattle.formula_ast.specs.Trees.{IsExponent};
 ghost use Rattle.formula_ast.specs.declared.token.Sign.TheVariants.{Plus, Minus, Times, Over};
 ghost use Rattle.fixed_interval.specs.Sums.{zero_span, both};
-ghost use Rattle.formula_box.specs.Slopes.{quotient_there, joined_slope, power_slope, where_used};
+ghost use Rattle.formula_box.specs.Slopes.{quotient_there, power_slope, where_used};
+ghost use Rattle.formula_box.specs.Parts.{short_slope};
 
 use crate::factor::{falling_factor, rising_factor};
 use decimal18::Dec;
@@ -71,7 +72,11 @@ fn difference_there<L: Ledger>(
     sub(&a?, &b?, steps).ok()
 }
 
-fn product_there<L: Ledger>(a: Option<Span>, b: Option<Span>, steps: &mut Steps<L>) -> Option<Span>
+pub(crate) fn product_there<L: Ledger>(
+    a: Option<Span>,
+    b: Option<Span>,
+    steps: &mut Steps<L>,
+) -> Option<Span>
     ensures span { result ≡ both a b product_span }
     ensures ticks { steps.new ≤ steps.old + 1 }
 {
@@ -83,6 +88,31 @@ fn quotient_there<L: Ledger>(a: Option<Span>, b: Option<Span>, steps: &mut Steps
     ensures ticks { steps.new ≤ steps.old + 1 }
 {
     div(&a?, &b?, steps).ok()
+}
+
+// ---- the rules where the name is in the left operand alone
+/// The derivative of `a * b` where the name does not occur in `b`, which has the value `b`.
+pub(crate) fn slope_times<L: Ledger>(a: &Slope, b: Option<Span>, steps: &mut Steps<L>) -> Slope
+    ensures used { result.used ≡ a.now.used }
+    ensures span { result.span ≡ where_used a.now.used (both a.now.span b product_span) }
+    ensures ticks { steps.new ≤ steps.old + 1 }
+{
+    if !a.used {
+        return Slope::absent();
+    }
+    Slope::found(product_there(a.span, b, steps))
+}
+
+/// The derivative of `a / b` where the name does not occur in `b`, which has the value `b`.
+pub(crate) fn slope_over<L: Ledger>(a: &Slope, b: Option<Span>, steps: &mut Steps<L>) -> Slope
+    ensures used { result.used ≡ a.now.used }
+    ensures span { result.span ≡ where_used a.now.used (both a.now.span b quotient_there) }
+    ensures ticks { steps.new ≤ steps.old + 1 }
+{
+    if !a.used {
+        return Slope::absent();
+    }
+    Slope::found(quotient_there(a.span, b, steps))
 }
 
 // ---- the rules
@@ -99,58 +129,62 @@ pub(crate) fn slope_of_name<L: Ledger>(name: &Name, by: &Name, steps: &mut Steps
 }
 
 /// The derivative of `-a`.
-pub(crate) fn slope_of_opposite<L: Ledger>(a: &Part, steps: &mut Steps<L>) -> Slope
-    ensures used { result.used ≡ a.now.slope.used }
-    ensures span { result.span ≡ where_used a.now.slope.used (then_span a.now.slope.span (λ d. Some (negative_span d))) }
+pub(crate) fn slope_of_opposite<L: Ledger>(a: &Slope, steps: &mut Steps<L>) -> Slope
+    ensures used { result.used ≡ a.now.used }
+    ensures span { result.span ≡ where_used a.now.used (then_span a.now.span (λ d. Some (negative_span d))) }
     ensures ticks { steps.new ≤ steps.old + 1 }
 {
-    if !a.slope.used {
+    if !a.used {
         return Slope::absent();
     }
-    let Some(slope) = a.slope.span else {
+    let Some(slope) = a.span else {
         return Slope::found(None);
     };
     Slope::found(Some(neg(&slope, steps)))
 }
 
 /// The derivative of `a + b`.
-pub(crate) fn slope_of_sum<L: Ledger>(a: &Part, b: &Part, steps: &mut Steps<L>) -> Slope
-    ensures used { result.used ≡ (a.now.slope.used || b.now.slope.used) }
-    ensures span { (v w x : Option Interval) → result.span ≡ where_used (a.now.slope.used || b.now.slope.used)
-        (joined_slope Plus v w x a.now.slope.span b.now.slope.span) }
+pub(crate) fn slope_of_sum<L: Ledger>(a: &Slope, b: &Slope, steps: &mut Steps<L>) -> Slope
+    ensures used { result.used ≡ (a.now.used || b.now.used) }
+    ensures span { (v w x : Option Interval) → result.span ≡ short_slope Plus a.now.used b.now.used v w x a.now.span b.now.span }
     ensures ticks { steps.new ≤ steps.old + 1 }
 {
-    if !is_used(a, b) {
-        return Slope::absent();
+    if !a.used {
+        return *b;
     }
-    Slope::found(sum_there(a.slope.span, b.slope.span, steps))
+    if !b.used {
+        return *a;
+    }
+    Slope::found(sum_there(a.span, b.span, steps))
 }
 
 /// The derivative of `a - b`.
-pub(crate) fn slope_of_difference<L: Ledger>(a: &Part, b: &Part, steps: &mut Steps<L>) -> Slope
-    ensures used { result.used ≡ (a.now.slope.used || b.now.slope.used) }
-    ensures span { (v w x : Option Interval) → result.span ≡ where_used (a.now.slope.used || b.now.slope.used)
-        (joined_slope Minus v w x a.now.slope.span b.now.slope.span) }
+pub(crate) fn slope_of_difference<L: Ledger>(a: &Slope, b: &Slope, steps: &mut Steps<L>) -> Slope
+    ensures used { result.used ≡ (a.now.used || b.now.used) }
+    ensures span { (v w x : Option Interval) → result.span ≡ short_slope Minus a.now.used b.now.used v w x a.now.span b.now.span }
     ensures ticks { steps.new ≤ steps.old + 1 }
 {
-    if !is_used(a, b) {
-        return Slope::absent();
+    if !b.used {
+        return *a;
     }
-    Slope::found(difference_there(a.slope.span, b.slope.span, steps))
+    Slope::found(difference_there(a.span, b.span, steps))
 }
 
 /// The derivative of `a * b`.
 pub(crate) fn slope_of_product<L: Ledger>(a: &Part, b: &Part, steps: &mut Steps<L>) -> Slope
     ensures used { result.used ≡ (a.now.slope.used || b.now.slope.used) }
-    ensures span { (x : Option Interval) → result.span ≡ where_used (a.now.slope.used || b.now.slope.used)
-        (joined_slope Times (Some a.now.value) (Some b.now.value) x a.now.slope.span b.now.slope.span) }
+    ensures span { (x : Option Interval) → result.span ≡ short_slope Times a.now.slope.used b.now.slope.used
+        (Some a.now.value) (Some b.now.value) x a.now.slope.span b.now.slope.span }
     ensures ticks { steps.new ≤ steps.old + 3 }
 {
-    if !is_used(a, b) {
-        return Slope::absent();
+    if !b.slope.used {
+        return slope_times(&a.slope, Some(b.value), steps);
+    }
+    let right = product_there(Some(a.value), b.slope.span, steps);
+    if !a.slope.used {
+        return Slope::found(right);
     }
     let left = product_there(a.slope.span, Some(b.value), steps);
-    let right = product_there(Some(a.value), b.slope.span, steps);
     Slope::found(sum_there(left, right, steps))
 }
 
@@ -162,12 +196,12 @@ pub(crate) fn slope_of_quotient<L: Ledger>(
     steps: &mut Steps<L>,
 ) -> Slope
     ensures used { result.used ≡ (a.now.slope.used || b.now.slope.used) }
-    ensures span { (v : Option Interval) → result.span ≡ where_used (a.now.slope.used || b.now.slope.used)
-        (joined_slope Over v (Some b.now.value) (Some value) a.now.slope.span b.now.slope.span) }
+    ensures span { (v : Option Interval) → result.span ≡ short_slope Over a.now.slope.used b.now.slope.used
+        v (Some b.now.value) (Some value) a.now.slope.span b.now.slope.span }
     ensures ticks { steps.new ≤ steps.old + 3 }
 {
-    if !is_used(a, b) {
-        return Slope::absent();
+    if !b.slope.used {
+        return slope_over(&a.slope, Some(b.value), steps);
     }
     let part = product_there(Some(value), b.slope.span, steps);
     let dividend = difference_there(a.slope.span, part, steps);
@@ -194,11 +228,4 @@ pub(crate) fn slope_of_power<L: Ledger>(a: &Part, k: i8, value: Span, steps: &mu
         falling_factor(a.value, k, value, steps)
     };
     Slope::found(product_there(factor, a.slope.span, steps))
-}
-
-// Whether the name occurs in one of the two.
-fn is_used(a: &Part, b: &Part) -> bool
-    ensures { result ≡ (a.now.slope.used || b.now.slope.used) }
-{
-    a.slope.used || b.slope.used
 }

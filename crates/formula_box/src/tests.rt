@@ -2,9 +2,9 @@ ghost use Rattle.std.specs.Prelude.{◌≡◌, if◌then◌else◌, bytes_eq, So
 ghost use Rattle.formula_ast.specs.Trees.{HasExponents};
 ghost use Rattle.formula_ast.specs.Views.{tree_of};
 
-use crate::{Env, EvalFault, eval, partial};
+use crate::{Env, EvalFault, eval, partial, partial_where_defined};
 use decimal18::Dec;
-use fixed_interval::{ArithFault, Span, Steps, ends};
+use fixed_interval::{ArithFault, Overflow, Span, Steps, ends};
 use formula_ast::{Formula, Name, read_formula};
 use std::alloc::Global;
 use std::marker::Brand;
@@ -28,7 +28,7 @@ type Row = (
     Result<Shown, EvalFault>,
 );
 
-const ROWS: [Row; 16] = [
+const ROWS: [Row; 28] = [
     ("X*X", 2, 3, Ok((4, 0, 9, 0)), Ok((4, 0, 6, 0))),
     ("X^2", 2, 3, Ok((4, 0, 9, 0)), Ok((4, 0, 6, 0))),
     ("X^3 - X", 2, 2, Ok((6, 0, 6, 0)), Ok((11, 0, 11, 0))),
@@ -75,6 +75,66 @@ const ROWS: [Row; 16] = [
         Err(EvalFault::NoValue(1)),
         Err(EvalFault::NoValue(1)),
     ),
+    ("2 - X", 5, 5, Ok((-3, 0, -3, 0)), Ok((-1, 0, -1, 0))),
+    (
+        "(1/3)*X",
+        -3,
+        -3,
+        Ok((-100_000_000_000_000_001, 17, -999_999_999_999_999_999, 18)),
+        Ok((333_333_333_333_333_333, 18, 333_333_333_333_333_334, 18)),
+    ),
+    (
+        "X*(1/3)",
+        3,
+        3,
+        Ok((999_999_999_999_999_999, 18, 100_000_000_000_000_001, 17)),
+        Ok((333_333_333_333_333_333, 18, 333_333_333_333_333_334, 18)),
+    ),
+    (
+        "X/(1/3-1)",
+        1,
+        1,
+        Ok((-150_000_000_000_000_001, 17, -149_999_999_999_999_999, 17)),
+        Ok((-150_000_000_000_000_001, 17, -149_999_999_999_999_999, 17)),
+    ),
+    ("(X - X)/2", 2, 2, Ok((0, 0, 0, 0)), Ok((0, 0, 0, 0))),
+    (
+        "X*999999999999999999",
+        1,
+        1,
+        Ok((999_999_999_999_999_999, 0, 999_999_999_999_999_999, 0)),
+        Ok((999_999_999_999_999_999, 0, 999_999_999_999_999_999, 0)),
+    ),
+    (
+        "(X+X)*999999999999999999",
+        0,
+        0,
+        Ok((0, 0, 0, 0)),
+        Err(OVERFLOW),
+    ),
+    (
+        "0.1*(10^-9*10^-9*10^-9*10^-9*X)",
+        1,
+        1,
+        Ok((0, 0, 1, 36)),
+        Ok((0, 0, 1, 36)),
+    ),
+    (
+        "(2*X)^2*3",
+        -1,
+        -1,
+        Ok((12, 0, 12, 0)),
+        Ok((-24, 0, -24, 0)),
+    ),
+    (
+        "(X/3)^1",
+        1,
+        1,
+        Ok((333_333_333_333_333_333, 18, 333_333_333_333_333_334, 18)),
+        Ok((333_333_333_333_333_333, 18, 333_333_333_333_333_334, 18)),
+    ),
+    ("(X*X)*(X*X)", 2, 2, Ok((16, 0, 16, 0)), Ok((32, 0, 32, 0))),
+    ("X/X/X", 2, 2, Ok((5, 1, 5, 1)), Ok((-25, 2, -25, 2))),
 ];
 
 // One name and its span.
@@ -124,6 +184,20 @@ fn formula_of(alloc: Global, text: &str) -> Result<Formula, &'static str>
     Ok(formula)
 }
 
+// The derivative of the formula, where it has a value, as found without its value.
+fn where_defined<L: Ledger>(
+    formula: &Formula,
+    name: &Name,
+    env: &Single,
+    steps: &mut Steps<L>,
+) -> Option<Result<Shown, EvalFault>>
+    requires { HasExponents (tree_of formula.now) }
+{
+    eval(formula, env, steps).ok()?;
+    let found = partial_where_defined(formula, name, env, steps);
+    Some(found.map(|s| shown(&s)).map_err(|_: Overflow| OVERFLOW))
+}
+
 fn rows<L: Ledger>(rt: &impl Abort, alloc: Global, blank: Blank) -> Result<(), Fail>
     requires name { blank.name ≡ L.name }
     requires parts { blank.parts ≡ L.parts }
@@ -139,6 +213,12 @@ fn rows<L: Ledger>(rt: &impl Abort, alloc: Global, blank: Blank) -> Result<(), F
         assert_eq!(rt; found, value, "the value of {text}");
         let found = partial(&formula, &name, &env, &mut steps).map(|s| shown(&s));
         assert_eq!(rt; found, derivative, "the derivative of {text}");
+        let found = where_defined(&formula, &name, &env, &mut steps);
+        assert_eq!(rt;
+            found.unwrap_or(derivative),
+            derivative,
+            "the derivative of {text}, which has a value"
+        );
     }
     Ok(())
 }
