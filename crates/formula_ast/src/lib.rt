@@ -29,7 +29,7 @@ pub use laws::{
 pub use name::{Name, is_plain_name};
 pub use name_list::NameList;
 pub use parting::cut;
-pub use print::print_formula;
+pub use print::{print_formula, put_formula};
 pub use read::read_formula;
 pub use uses::names;
 pub use worked::{worked_prints, worked_readings, worked_refusals};

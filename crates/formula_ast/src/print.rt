@@ -52,14 +52,14 @@ fn write_exponent(out: &mut Bytes, exponent: i8) -> Result<(), OutOfMemory>
 
 /// Puts the text of the formula at the end, in parentheses where it binds less tightly than `least`.
 #[tactic(auto, using(crate::proofs::Guards::guarded_parts))]
-fn write(alloc: Global, out: &mut Bytes, least: u8, f: &Formula) -> Result<(), OutOfMemory>
+fn write(out: &mut Bytes, least: u8, f: &Formula) -> Result<(), OutOfMemory>
     ensures { OnOk result (out.new ≡ out.old ++ guarded least (tree_of f.now) (print (tree_of f.now))) }
 {
     let guard = binding(f) < least;
     open(out, guard)?;
     match f {
         Formula::Num(number) => {
-            out.extend_from_slice(number.print(alloc)?.as_slice())?;
+            number.put(out)?;
             close(out, guard)
         }
         Formula::Var(name) => {
@@ -68,40 +68,51 @@ fn write(alloc: Global, out: &mut Bytes, least: u8, f: &Formula) -> Result<(), O
         }
         Formula::Neg(a) => {
             out.push(b'-')?;
-            write(alloc, out, 2, a)?;
+            write(out, 2, a)?;
             close(out, guard)
         }
         Formula::Add(a, b) => {
-            write(alloc, out, 0, a)?;
+            write(out, 0, a)?;
             out.extend_from_slice(b" + ")?;
-            write(alloc, out, 1, b)?;
+            write(out, 1, b)?;
             close(out, guard)
         }
         Formula::Sub(a, b) => {
-            write(alloc, out, 0, a)?;
+            write(out, 0, a)?;
             out.extend_from_slice(b" - ")?;
-            write(alloc, out, 1, b)?;
+            write(out, 1, b)?;
             close(out, guard)
         }
         Formula::Mul(a, b) => {
-            write(alloc, out, 1, a)?;
+            write(out, 1, a)?;
             out.extend_from_slice(b" * ")?;
-            write(alloc, out, 2, b)?;
+            write(out, 2, b)?;
             close(out, guard)
         }
         Formula::Div(a, b) => {
-            write(alloc, out, 1, a)?;
+            write(out, 1, a)?;
             out.extend_from_slice(b" / ")?;
-            write(alloc, out, 2, b)?;
+            write(out, 2, b)?;
             close(out, guard)
         }
         Formula::Pow(a, exponent) => {
-            write(alloc, out, 4, a)?;
+            write(out, 4, a)?;
             out.push(b'^')?;
             write_exponent(out, *exponent)?;
             close(out, guard)
         }
     }
+}
+
+/// Puts the text of the formula at the end.
+///
+/// # Errors
+///
+/// [`OutOfMemory`] where there is no memory for it.
+pub fn put_formula(out: &mut Bytes, f: &Formula) -> Result<(), OutOfMemory>
+    ensures { OnOk result (out.new ≡ out.old ++ print (tree_of f.now)) }
+{
+    write(out, 0, f)
 }
 
 /// The text of the formula.
@@ -113,6 +124,6 @@ pub fn print_formula(alloc: Global, f: &Formula) -> Result<Bytes, OutOfMemory>
     ensures { IfOk result (λ text. text ≡ print (tree_of f.now)) }
 {
     let mut text = Bytes::new(alloc)?;
-    write(alloc, &mut text, 0, f)?;
+    put_formula(&mut text, f)?;
     Ok(text)
 }
