@@ -1,7 +1,7 @@
 -- What the definitions find over spans is so of all numbers in the spans.
-use Rattle.std.specs.Prelude.{◌≡◌, Bool, true, false, cond, List, [], ◌∷◌, Option, None, Some, unwrap_or, IfSome, Result, Ok, Err, IfOk, refl}
+use Rattle.std.specs.Prelude.{◌≡◌, Bool, true, false, cond, List, [], ◌∷◌, Option, None, Some, unwrap_or, IfSome, Ok, refl}
 use Rattle.std.specs.List.{AllByRecursion, find}
-use Rattle.std.proofs.Common.{sym, ap, subst}
+use Rattle.std.proofs.Common.{subst}
 use Rattle.exact_fraction.specs.Number.{ℚ, ◌*ℚ◌, ◌≤ℚ◌}
 use Rattle.exact_fraction.specs.NumberLaws.{≤ℚ_antisym, ≤ℚ_trans}
 use Rattle.exact_law.specs.Rounding.{AreDigitsOf}
@@ -9,7 +9,6 @@ use Rattle.decimal18.specs.Bound.{value_of}
 use Rattle.fixed_interval.specs.Interval.{Interval, Encloses}
 use Rattle.fixed_interval.specs.Rules.{product_span, square_span}
 use Rattle.fixed_interval.specs.Sums.{Holds, both}
-use Rattle.fixed_interval.specs.declared.faults.Overflow.{Overflow}
 use Rattle.fixed_interval.proofs.Inclusions.{square_span_encloses}
 use Rattle.fixed_interval.proofs.Sums.{product_holds, some_holds}
 use Rattle.round_out.specs.Settled.{stated_digits}

@@ -21,7 +21,7 @@ pub use laws::{
     worked_meanings, worked_texts,
 };
 pub use outcome::Reported;
-pub use print::print_at;
+pub use print::{print_at, put_at};
 pub use report::{expanded, reported};
 pub use worked::{
     worked_coefficients, worked_digits_of_spans, worked_expansions, worked_report_meanings,

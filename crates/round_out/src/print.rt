@@ -64,34 +64,46 @@ fn push_zeros(text: &mut Bytes, count: u8) -> Result<(), OutOfMemory>
     Ok(())
 }
 
-// A number with so many digits after the point.
-fn print_places(alloc: Global, number: i128, places: u8) -> Result<Bytes, OutOfMemory>
+// Puts a number with so many digits after the point at the end.
+fn put_places(text: &mut Bytes, number: i128, places: u8) -> Result<(), OutOfMemory>
     requires { 0 < places }
-    ensures { IfOk result (λ text. text ≡ text_of (scaled number places)) }
+    ensures { OnOk result (text.new ≡ text.old ++ text_of (scaled number places)) }
 {
     let size = number.unsigned_abs();
-    let mut text = Bytes::from_slice(alloc, sign(number))?;
-    push_whole(&mut text, leading(size, places))?;
+    text.extend_from_slice(sign(number))?;
+    push_whole(text, leading(size, places))?;
     text.push(b'.')?;
-    push_last_digits(&mut text, size, places)?;
-    Ok(text)
+    push_last_digits(text, size, places)
 }
 
-// A number followed by so many zeros.
-fn print_zeros(alloc: Global, number: i128, zeros: u8) -> Result<Bytes, OutOfMemory>
-    ensures { IfOk result (λ text. text ≡ with_zeros number zeros) }
+// Puts a number followed by so many zeros at the end.
+fn put_zeros(text: &mut Bytes, number: i128, zeros: u8) -> Result<(), OutOfMemory>
+    ensures { OnOk result (text.new ≡ text.old ++ with_zeros number zeros) }
 {
     if number == 0 {
-        return Bytes::from_slice(alloc, b"0");
+        return text.extend_from_slice(b"0");
     }
-    let mut text = Bytes::from_slice(alloc, sign(number))?;
-    push_whole(&mut text, number.unsigned_abs())?;
-    push_zeros(&mut text, zeros)?;
-    Ok(text)
+    text.extend_from_slice(sign(number))?;
+    push_whole(text, number.unsigned_abs())?;
+    push_zeros(text, zeros)
 }
 
-/// The text of `c` units of 10^`e`: for an `e` below 0 a number with -`e` digits after the point, else a whole number
-/// with `e` zeros at the end.
+/// Puts the text of `c` units of 10^`e` at the end: for an `e` below 0 a number with -`e` digits after the point, else
+/// a whole number with `e` zeros at the end.
+///
+/// # Errors
+///
+/// [`OutOfMemory`] where there is no memory for the text.
+pub fn put_at(text: &mut Bytes, c: i128, e: i8) -> Result<(), OutOfMemory>
+    ensures { OnOk result (text.new ≡ text.old ++ text_at c e) }
+{
+    if e < 0 {
+        return put_places(text, c, e.unsigned_abs());
+    }
+    put_zeros(text, c, e.unsigned_abs())
+}
+
+/// The text of `c` units of 10^`e`, as [`put_at`] puts it.
 ///
 /// # Errors
 ///
@@ -99,8 +111,7 @@ fn print_zeros(alloc: Global, number: i128, zeros: u8) -> Result<Bytes, OutOfMem
 pub fn print_at(alloc: Global, c: i128, e: i8) -> Result<Bytes, OutOfMemory>
     ensures { IfOk result (λ text. text ≡ text_at c e) }
 {
-    if e < 0 {
-        return print_places(alloc, c, e.unsigned_abs());
-    }
-    print_zeros(alloc, c, e.unsigned_abs())
+    let mut text = Bytes::new(alloc)?;
+    put_at(&mut text, c, e)?;
+    Ok(text)
 }
