@@ -22,7 +22,7 @@ mod table_tests;
 mod tolerance_tests;
 mod worked;
 
-pub use print::print_row;
+pub use print::{print_row, put_row};
 pub use read::{read_begun_row, read_row, read_row_words};
 pub use read_joint::{TABLE, read_table, read_table_words};
 pub use reading_laws::{printed_rows_are_read_again, rows_are_never_out_of_memory};

@@ -9,7 +9,6 @@ ghost use Rattle.row_text.specs.Printing.{number_fields, records_text, head_text
 use crate::print::put_number;
 use formula_ast::Name;
 use line_text::{Bytes, OutOfMemory};
-use std::alloc::Global;
 use type_a::Readings;
 
 /// Puts the names at the end, with a comma between each two.
@@ -28,32 +27,27 @@ fn put_names(out: &mut Bytes, names: &[Name]) -> Result<(), OutOfMemory>
 }
 
 /// Puts the numbers of this record at the end, with a comma between each two.
-fn put_record(
-    alloc: Global,
-    out: &mut Bytes,
-    readings: &Readings,
-    row: usize,
-) -> Result<(), OutOfMemory>
+fn put_record(out: &mut Bytes, readings: &Readings, row: usize) -> Result<(), OutOfMemory>
     requires taken { refusal readings.now ≡ None }
     requires some { 0 < width_of readings.now }
     requires row { row < length readings.now }
     ensures { OnOk result (out.new ≡ out.old ++ join_with_byte comma (number_fields (get_or readings.now row []))) }
 {
-    put_number(alloc, out, b"", &readings.value_at(row, 0))?;
+    put_number(out, b"", &readings.value_at(row, 0))?;
     for column in 1..readings.width() {
-        put_number(alloc, out, b",", &readings.value_at(row, column))?;
+        put_number(out, b",", &readings.value_at(row, column))?;
     }
     Ok(())
 }
 
 /// Puts the records at the end, a line each.
-fn put_records(alloc: Global, out: &mut Bytes, readings: &Readings) -> Result<(), OutOfMemory>
+fn put_records(out: &mut Bytes, readings: &Readings) -> Result<(), OutOfMemory>
     requires taken { refusal readings.now ≡ None }
     requires some { 0 < width_of readings.now }
     ensures { OnOk result (out.new ≡ out.old ++ records_text readings.now) }
 {
     for row in 0..readings.count() {
-        put_record(alloc, out, readings, row)?;
+        put_record(out, readings, row)?;
         out.push(b'\n')?;
     }
     Ok(())
@@ -61,7 +55,6 @@ fn put_records(alloc: Global, out: &mut Bytes, readings: &Readings) -> Result<()
 
 /// Puts the text of the table at the end.
 pub(crate) fn put_table(
-    alloc: Global,
     out: &mut Bytes,
     name: &Name,
     columns: &[Name],
@@ -76,6 +69,6 @@ pub(crate) fn put_table(
     out.push(b'\n')?;
     put_names(out, columns)?;
     out.push(b'\n')?;
-    put_records(alloc, out, readings)?;
+    put_records(out, readings)?;
     out.extend_from_slice(b"end")
 }
