@@ -169,6 +169,78 @@ impl Sheet {
         }
     }
 
+    // The verdict on setting the row, and the place of that of its name.
+    fn place_to_set(&self, row: &Row) -> Result<usize, EditFault>
+        requires { IsRegular (row_of row.now) }
+        ensures verdict { IsVerdict result (set_row (row_of row.now) self.now) (verdict_set self.now (row_of row.now)) }
+        ensures unknown { has_row self.now (name_of (row_of row.now)) ≡ false → result ≡ Err (EditFault.Unknown (name_of (row_of row.now))) }
+        ensures there { IfOk result (λ at. place_of self.now (name_of (row_of row.now)) ≡ Some at) }
+        ensures standing { OnOk result (IsStanding (set_row (row_of row.now) self.now)) }
+    {
+        let name = row.name();
+        let Some(at) = self.place_of(name) else {
+            return Err(EditFault::Unknown(*name));
+        };
+        self.check_set(row, at)?;
+        Ok(at)
+    }
+
+    // The verdict on removing the row of this name, and its place.
+    fn place_to_remove(&self, name: &Name) -> Result<usize, EditFault>
+        ensures verdict { verdict_of result (removed name.now self.now) ≡ verdict_remove self.now name.now }
+        ensures there { IfOk result (λ at. place_of self.now name.now ≡ Some at) }
+        ensures standing { OnOk result (IsStanding (removed name.now self.now)) }
+    {
+        let Some(at) = self.place_of(name) else {
+            return Err(EditFault::Unknown(*name));
+        };
+        self.check_removed(name, at)?;
+        Ok(at)
+    }
+
+    // Puts a row last that is accepted.
+    fn put_last(&mut self, row: Row) -> Result<(), EditFault>
+        requires new { place_of self.old (name_of (row_of row)) ≡ None }
+        requires standing { IsStanding (added self.old (row_of row)) }
+        ensures ok { OnOk result (self.new ≡ added self.old (row_of row)) }
+        ensures err { IfErr result (λ fault. fault ≡ EditFault.OutOfMemory) }
+        ensures unchanged { OnErr result (self.new ≡ self.old) }
+    {
+        let name = *row.name();
+        match Rc::new(self.allocator(), row) {
+            Ok(row) => {
+                self.push(name, row)?;
+                Ok(())
+            }
+            Err(_) => Err(EditFault::OutOfMemory),
+        }
+    }
+
+    // Puts a row that is accepted in the place of that of its name, and hands the old row out.
+    fn put_in_place(&mut self, at: usize, row: Row) -> Result<Rc<Row>, EditFault>
+        requires there { place_of self.old (name_of (row_of row)) ≡ Some at }
+        requires standing { IsStanding (set_row (row_of row) self.old) }
+        ensures ok { OnOk result (self.new ≡ set_row (row_of row) self.old) }
+        ensures old { IfOk result (λ old. find (is_named (name_of (row_of row))) self.old.rows ≡ Some (row_of old.value)) }
+        ensures err { IfErr result (λ fault. fault ≡ EditFault.OutOfMemory) }
+        ensures unchanged { OnErr result (self.new ≡ self.old) }
+    {
+        match Rc::new(self.allocator(), row) {
+            Ok(row) => Ok(self.exchange(at, row)),
+            Err(_) => Err(EditFault::OutOfMemory),
+        }
+    }
+
+    // Takes a row out, and hands it out.
+    fn take_out(&mut self, name: &Name, at: usize) -> Rc<Row>
+        requires there { place_of self.old name.now ≡ Some at }
+        requires standing { IsStanding (removed name.now self.old) }
+        ensures old { slice_get self.old.rows at ≡ Some (row_of result.value) }
+        ensures new { self.new ≡ removed name.now self.old }
+    {
+        self.withdraw(at)
+    }
+
     /// Adds a row, which is put last. It takes the time of finding the row's own names; for a correlation it looks
     /// at each row.
     ///
@@ -188,26 +260,30 @@ impl Sheet {
             discard(row);
             return Err(fault);
         }
-        let name = *row.name();
-        match Rc::new(self.allocator(), row) {
-            Ok(row) => self.push_checked(name, row),
-            Err(_) => Err(EditFault::OutOfMemory),
-        }
+        self.put_last(row)
     }
 
-    // As `push`, with the fault of an edit.
-    fn push_checked(&mut self, name: Name, row: Rc<Row>) -> Result<(), EditFault>
-        requires named { name ≡ name_of (row_of row.value) }
-        requires new { place_of self.old name ≡ None }
-        requires standing { IsStanding (added self.old (row_of row.value)) }
-        ensures ok { OnOk result (self.new ≡ added self.old (row_of row.value)) }
-        ensures err { IfErr result (λ fault. fault ≡ EditFault.OutOfMemory) }
+    /// Adds a row as [`Sheet::try_add`] does, and hands out a copy of the sheet before. Only an accepted row has the sheet
+    /// copied.
+    ///
+    /// # Errors
+    ///
+    /// Those of [`Sheet::try_add`].
+    pub fn try_add_with_copy(&mut self, row: Row) -> Result<Sheet, EditFault>
+        requires { IsRegular (row_of row) }
+        ensures verdict { IsVerdict result self.new (verdict_add self.old (row_of row)) }
+        ensures full { verdict_add self.old (row_of row) ≡ Err EditFault.RowsFull → result ≡ Err EditFault.RowsFull }
+        ensures duplicate { (n : List ℕ) → verdict_add self.old (row_of row) ≡ Err (EditFault.Duplicate n) → result ≡ Err (EditFault.Duplicate n) }
+        ensures before { IfOk result (λ before. before ≡ self.old) }
         ensures unchanged { OnErr result (self.new ≡ self.old) }
     {
-        match self.push(name, row) {
-            Ok(()) => Ok(()),
-            Err(_) => Err(EditFault::OutOfMemory),
+        if let Err(fault) = self.check_added(&row) {
+            discard(row);
+            return Err(fault);
         }
+        let before = self.copy()?;
+        self.put_last(row)?;
+        Ok(before)
     }
 
     /// Puts a row in the place of that of its name, and hands the old row out. It takes the time of finding the row's
@@ -226,18 +302,38 @@ impl Sheet {
         ensures old { IfOk result (λ old. find (is_named (name_of (row_of row))) self.old.rows ≡ Some (row_of old.value)) }
         ensures unchanged { OnErr result (self.new ≡ self.old) }
     {
-        let name = *row.name();
-        let Some(at) = self.place_of(&name) else {
-            discard(row);
-            return Err(EditFault::Unknown(name));
-        };
-        if let Err(fault) = self.check_set(&row, at) {
-            discard(row);
-            return Err(fault);
+        match self.place_to_set(&row) {
+            Ok(at) => self.put_in_place(at, row),
+            Err(fault) => {
+                discard(row);
+                Err(fault)
+            }
         }
-        match Rc::new(self.allocator(), row) {
-            Ok(row) => Ok(self.exchange(at, row)),
-            Err(_) => Err(EditFault::OutOfMemory),
+    }
+
+    /// Sets a row as [`Sheet::try_set`] does, and hands out a copy of the sheet before. Only an accepted row has the sheet
+    /// copied.
+    ///
+    /// # Errors
+    ///
+    /// Those of [`Sheet::try_set`].
+    pub fn try_set_with_copy(&mut self, row: Row) -> Result<Sheet, EditFault>
+        requires { IsRegular (row_of row) }
+        ensures verdict { IsVerdict result self.new (verdict_set self.old (row_of row)) }
+        ensures unknown { has_row self.old (name_of (row_of row)) ≡ false → result ≡ Err (EditFault.Unknown (name_of (row_of row))) }
+        ensures before { IfOk result (λ before. before ≡ self.old) }
+        ensures unchanged { OnErr result (self.new ≡ self.old) }
+    {
+        match self.place_to_set(&row) {
+            Ok(at) => {
+                let before = self.copy()?;
+                self.put_in_place(at, row)?;
+                Ok(before)
+            }
+            Err(fault) => {
+                discard(row);
+                Err(fault)
+            }
         }
     }
 
@@ -254,11 +350,26 @@ impl Sheet {
         ensures row { IfOk result (λ r. slice_get self.old.rows r.0 ≡ Some (row_of r.1.value)) }
         ensures unchanged { OnErr result (self.new ≡ self.old) }
     {
-        let Some(at) = self.place_of(name) else {
-            return Err(EditFault::Unknown(*name));
-        };
-        self.check_removed(name, at)?;
-        Ok((at, self.withdraw(at)))
+        let at = self.place_to_remove(name)?;
+        Ok((at, self.take_out(name, at)))
+    }
+
+    /// Removes a row as [`Sheet::try_remove`] does, and hands out a copy of the sheet before. Only an accepted removal has
+    /// the sheet copied.
+    ///
+    /// # Errors
+    ///
+    /// Those of [`Sheet::try_remove`], or [`EditFault::OutOfMemory`], which hides none of them. The sheet is then as before.
+    pub fn try_remove_with_copy(&mut self, name: &Name) -> Result<Sheet, EditFault>
+        ensures verdict { IsVerdict result self.new (verdict_remove self.old name.now) }
+        ensures refusal { (fault : EditFault) → verdict_remove self.old name.now ≡ Err fault → result ≡ Err fault }
+        ensures before { IfOk result (λ before. before ≡ self.old) }
+        ensures unchanged { OnErr result (self.new ≡ self.old) }
+    {
+        let at = self.place_to_remove(name)?;
+        let before = self.copy()?;
+        self.take_out(name, at);
+        Ok(before)
     }
 }
 

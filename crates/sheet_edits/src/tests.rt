@@ -281,6 +281,47 @@ fn run_cases(sheet: &mut Sheet, alloc: Global) -> Result<(), &'static str> {
     Ok(())
 }
 
+// As `edit`, by the calls that hand out the sheet before: with the number of that sheet's rows, or of those that a refused
+// edit leaves.
+fn edit_with_copy(
+    sheet: &mut Sheet,
+    alloc: Global,
+    kind: Kind,
+    name: &str,
+    what: What,
+) -> Result<(Option<EditFault>, usize), &'static str> {
+    let before = match kind {
+        Kind::Add => sheet.try_add_with_copy(row_of(alloc, name, what)?),
+        Kind::Set => sheet.try_set_with_copy(row_of(alloc, name, what)?),
+        Kind::Remove => sheet.try_remove_with_copy(&name_of(name)?),
+    };
+    match before {
+        Ok(before) => Ok((None, before.len())),
+        Err(fault) => Ok((Some(fault), sheet.len())),
+    }
+}
+
+fn run_cases_with_copies(sheet: &mut Sheet, alloc: Global) -> Result<(), &'static str> {
+    for (kind, name, what, outcome, rows) in CASES {
+        let len = sheet.len();
+        let (fault, before) = edit_with_copy(sheet, alloc, kind, name, what)?;
+        if !is_outcome(fault, outcome)? {
+            return Err("another outcome");
+        }
+        if before != len || sheet.len() != rows {
+            return Err("another number of rows");
+        }
+    }
+    Ok(())
+}
+
+#[test]
+fn accepted_edits_hand_out_the_sheet_before(rt: HostRuntime) -> Result<(), Fail> {
+    let mut sheet = Sheet::new(rt.alloc())?;
+    run_cases_with_copies(&mut sheet, rt.alloc())?;
+    Ok(())
+}
+
 #[test]
 fn refusals_leave_the_sheet(rt: HostRuntime) -> Result<(), Fail> {
     let mut sheet = Sheet::new(rt.alloc())?;
