@@ -83,8 +83,7 @@ impl Session {
         requires { IsRegularEdit (edit_of edit) }
         ensures { (reply : Option Reply) → IsEditReply result reply → Does (state_of self.old) (Change (edit_of edit)) (state_of self.new) reply }
     {
-        let before = self.present.copy()?;
-        apply(&mut self.present, edit)?;
+        let before = apply(&mut self.present, edit)?;
         self.past.push_back(before);
         self.future.clear();
         Ok(())

@@ -45,6 +45,8 @@ enum Outcome {
     Done,
     // The lower end of a value, or a place.
     Number(i64),
+    // An edit that the sheet refuses.
+    Refused,
     NothingToUndo,
     NothingToRedo,
     MarksFull,
@@ -96,6 +98,22 @@ const EDITS: [(Step, Outcome); 17] = [
     (Step::Undo, Outcome::Done),
     (Step::Value(b'X'), Outcome::Number(6)),
     (Step::Value(b'Y'), Outcome::NoSuchResult(b'Y')),
+];
+
+// A refused edit is no step: undo leads to the sheet before the last accepted edit, and redo back to the one after it.
+const REFUSALS: [(Step, Outcome); 12] = [
+    (Step::Add(b'X', 5), Outcome::Done),
+    (Step::Set(b'X', 6), Outcome::Done),
+    (Step::Add(b'X', 7), Outcome::Refused),
+    (Step::Set(b'Y', 7), Outcome::Refused),
+    (Step::Remove(b'Y'), Outcome::Refused),
+    (Step::Value(b'X'), Outcome::Number(6)),
+    (Step::Undo, Outcome::Done),
+    (Step::Value(b'X'), Outcome::Number(5)),
+    (Step::Set(b'Y', 7), Outcome::Refused),
+    (Step::Redo, Outcome::Done),
+    (Step::Value(b'X'), Outcome::Number(6)),
+    (Step::Place(b'X'), Outcome::Number(0)),
 ];
 
 // Names in queries for sensitivities, over the table T of A, whose mean is 2, and B, whose mean is 4, and the
@@ -184,7 +202,8 @@ pub(crate) fn of_letter(name: &Name) -> u8 {
 fn of_edit(done: Result<(), EditFault>) -> Outcome {
     match done {
         Ok(()) => Outcome::Done,
-        Err(_) => Outcome::Other,
+        Err(EditFault::OutOfMemory) => Outcome::Other,
+        Err(_) => Outcome::Refused,
     }
 }
 
@@ -289,6 +308,8 @@ fn run_all<L: Ledger>(rt: &impl Abort, alloc: Global, blank: Blank) -> Result<()
     follow(rt, &mut marked, &MARKS, &mut steps);
     let mut edited = Session::new(alloc)?;
     follow(rt, &mut edited, &EDITS, &mut steps);
+    let mut refused = Session::new(alloc)?;
+    follow(rt, &mut refused, &REFUSALS, &mut steps);
     let mut session = Session::new(alloc)?;
     assert_eq!(rt;
         outcome_of(&mut session, Step::Add(b'X', 0), &mut steps),

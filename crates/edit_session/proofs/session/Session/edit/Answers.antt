@@ -15,7 +15,7 @@ use Rattle.edit_session.proofs.session.Session.edit.Goals as goal
 pushed : (c : goal.After-clear) → Pushed c.push_back.new.self c.self.inside.past.items c.self.inside.present
 pushed c =
     c.push_back.ensures.items
-    ∙ ap₂ (λ cap sheet. buffer (keep_last cap (c.self.inside.past.items ++ sheet ∷ [])) cap) c.self.invariant.room c.in_ok-before.ensures
+    ∙ ap₂ (λ cap sheet. buffer (keep_last cap (c.self.inside.past.items ++ sheet ∷ [])) cap) c.self.invariant.room c.in_ok-before.ensures.before
 
 after : goal.After-clear → State
 after c = state_from c.apply.new.sheet c.push_back.new.self.items c.clear.new.self.items c.self.inside.marks.entries
@@ -24,7 +24,7 @@ stepped : (c : goal.After-clear) → step (state_in c.self.inside) (Change (edit
 unfolding after
 stepped c =
     edit_step c.self.inside.present c.apply.new.sheet c.self.inside.past.items c.self.inside.future.items c.clear.new.self.items
-    c.self.inside.marks.entries c.push_back.new.self (edit_of c.args.edit) c.in_ok-apply.ensures.verdict (pushed c) c.clear.ensures.items
+    c.self.inside.marks.entries c.push_back.new.self (edit_of c.args.edit) c.in_ok-before.ensures.verdict (pushed c) c.clear.ensures.items
 
 pub invariant_of-self-2 : goal.invariant_of-self-2
 unfolding after
