@@ -11,8 +11,8 @@ use crate::serve::serve;
 use answers::{LineFault, Reply};
 use edit_session::Session;
 use fixed_interval::Steps;
-use line_text::OutOfMemory;
-use script_lines::{Item, Splitter, print_reply, read_command};
+use line_text::{Bytes, OutOfMemory};
+use script_lines::{Item, Splitter, put_reply, read_command};
 use sheet_rows::RowFault;
 use std::alloc::Global;
 use std::sync::ledger::Ledger;
@@ -22,13 +22,13 @@ pub fn respond<L: Ledger>(
     alloc: Global,
     script: &[u8],
     steps: &mut Steps<L>,
-) -> Result<Vec<u8>, OutOfMemory>
-    ensures { IfOk result (λ replies. replies.items ≡ out script.now) }
+) -> Result<Bytes, OutOfMemory>
+    ensures { IfOk result (λ replies. replies ≡ out script.now) }
 {
     let mut session = Session::new(alloc)?;
     let mut splitter = Splitter::new(alloc)?;
     splitter.feed(script)?;
-    let mut replies = Vec::new(alloc);
+    let mut replies = Bytes::new(alloc)?;
     'items: while let Some(item) = splitter.take()? {
         answer_item(alloc, &item, &mut session, &mut replies, steps)?;
     }
@@ -75,17 +75,16 @@ fn answer_item<L: Ledger>(
     alloc: Global,
     item: &Item,
     session: &mut Session,
-    replies: &mut Vec<u8>,
+    replies: &mut Bytes,
     steps: &mut Steps<L>,
 ) -> Result<(), OutOfMemory>
     ensures state { OnOk result (state_of session.new ≡ state_after_line (state_of session.old) (command_read item.now)) }
     ensures replies { (items : List Item) → OnOk result
-        (replies.new.items ++ text_of_replies (replies_to (state_of session.new) items)
-        ≡ replies.old.items ++ text_of_replies (replies_to (state_of session.old) (item.now ∷ items))) }
+        (replies.new ++ text_of_replies (replies_to (state_of session.new) items)
+        ≡ replies.old ++ text_of_replies (replies_to (state_of session.old) (item.now ∷ items))) }
 {
     if let Some(reply) = reply_to(alloc, item, session, steps)? {
-        let text = print_reply(alloc, &reply)?;
-        replies.extend_from_slice(text.as_slice())?;
+        put_reply(replies, &reply)?;
     }
     Ok(())
 }
@@ -95,12 +94,12 @@ fn answer_last<L: Ledger>(
     alloc: Global,
     splitter: Splitter,
     session: &mut Session,
-    replies: &mut Vec<u8>,
+    replies: &mut Bytes,
     steps: &mut Steps<L>,
 ) -> Result<(), OutOfMemory>
     requires { whole_items_of splitter ≡ [] }
-    ensures { OnOk result (replies.new.items
-        ≡ replies.old.items ++ text_of_replies (replies_to (state_of session.old) (items_of splitter))) }
+    ensures { OnOk result (replies.new
+        ≡ replies.old ++ text_of_replies (replies_to (state_of session.old) (items_of splitter))) }
 {
     match splitter.finish()? {
         Some(item) => answer_item(alloc, &item, session, replies, steps),

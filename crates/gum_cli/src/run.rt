@@ -120,7 +120,7 @@ fn run_script<S: Source, K: Sink, L: Ledger>(
         return Status::OutOfMemory;
     };
     replies_are_sound();
-    match write_all(sink, &replies) {
+    match write_all(sink, replies.as_slice()) {
         Ok(()) => Status::Done,
         Err(Failed) => Status::WriteFault,
     }

@@ -7,6 +7,7 @@ ghost use Rattle.script_lines.specs.Yields.{Yields};
 use crate::block::{ends_block, opens_block};
 use crate::item::{Item, block_item, is_long, last_outside, without_return};
 use line_text::{Bytes, OutOfMemory, after};
+use memchr::memchr;
 use std::alloc::Global;
 
 /// The number of bytes before the first line feed, and `None` where there is none.
@@ -17,12 +18,7 @@ fn line_len(text: &[u8]) -> Option<usize>
     ensures feed { IfSome result (λ len. get_or text.now len 0 ≡ 10) }
     ensures none { IfNone result (parts_of text.now ≡ text.now ∷ []) }
 {
-    for (i, byte) in text.iter().enumerate() {
-        if *byte == b'\n' {
-            return Some(i);
-        }
-    }
-    None
+    memchr(b'\n', text)
 }
 
 /// The lines of a block, at the start of a text.

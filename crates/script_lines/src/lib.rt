@@ -23,7 +23,7 @@ mod worked;
 
 pub use item::Item;
 pub use laws::{commands_are_never_out_of_memory, commands_are_regular};
-pub use print::print_reply;
+pub use print::{print_reply, put_reply};
 pub use read::read_command;
 pub use splitter::Splitter;
 pub use worked::{

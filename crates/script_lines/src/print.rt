@@ -15,7 +15,7 @@ use crate::print_result::{
 use answers::{Answer, Reply};
 use fixed_interval::ArithFault;
 use line_text::{Bytes, OutOfMemory};
-use row_text::print_row;
+use row_text::put_row;
 use sheet_rows::Row;
 use std::alloc::Global;
 use std::rc::Rc;
@@ -31,42 +31,40 @@ fn arithmetic_words(fault: &ArithFault) -> &'static [u8]
 }
 
 /// Puts the rows at the end, a line each.
-fn put_rows(alloc: Global, text: &mut Bytes, rows: &[Rc<Row>]) -> Result<(), OutOfMemory>
+fn put_rows(text: &mut Bytes, rows: &[Rc<Row>]) -> Result<(), OutOfMemory>
     requires { AreRegular (map (λ row. row_of row.value) rows.now) }
     ensures { OnOk result (text.new ≡ text.old ++ text_of_rows (map (λ row. row_of row.value) rows.now)) }
 {
     for row in rows {
-        text.extend_from_slice(print_row(alloc, row)?.as_slice())?;
-        text.extend_from_slice(b"\n")?;
+        put_row(text, row)?;
+        text.push(b'\n')?;
     }
     Ok(())
 }
 
-fn put_answer(alloc: Global, text: &mut Bytes, answer: &Answer) -> Result<(), OutOfMemory>
+fn put_answer(text: &mut Bytes, answer: &Answer) -> Result<(), OutOfMemory>
     requires { IsRegularAnswer answer.now }
     ensures { OnOk result (text.new ≡ text.old ++ text_of_answer answer.now) }
 {
     match answer {
-        Answer::Value(name, span) => put_span_of(alloc, text, b"value", name, span),
-        Answer::Variance(name, span) => put_span_of(alloc, text, b"var", name, span),
+        Answer::Value(name, span) => put_span_of(text, b"value", name, span),
+        Answer::Variance(name, span) => put_span_of(text, b"var", name, span),
         Answer::Covariance(first, second, span) => {
-            put_span_of_two(alloc, text, b"cov", first, second, span)
+            put_span_of_two(text, b"cov", first, second, span)
         }
-        Answer::Correlation(first, second, said) => {
-            put_correlation(alloc, text, first, second, said)
-        }
+        Answer::Correlation(first, second, said) => { put_correlation(text, first, second, said) }
         Answer::Sensitivity(name, input, span) => {
-            put_span_of_two(alloc, text, b"sens", name, input, span)
+            put_span_of_two(text, b"sens", name, input, span)
         }
         Answer::Degrees(name, said) => put_degrees(text, name, said),
-        Answer::Report(name, said) => put_report(alloc, text, name, said),
-        Answer::Expanded(name, said, factor) => put_expanded(alloc, text, name, said, *factor),
+        Answer::Report(name, said) => put_report(text, name, said),
+        Answer::Expanded(name, said, factor) => put_expanded(text, name, said, *factor),
         Answer::Decision(name, rule, said) => put_decision(text, name, rule, said),
         Answer::Budget(lines, name, variance) => {
-            put_budget(alloc, text, lines.as_slice(), name, variance)
+            put_budget(text, lines.as_slice(), name, variance)
         }
         Answer::Dump(rows) => {
-            put_rows(alloc, text, rows.as_slice())?;
+            put_rows(text, rows.as_slice())?;
             text.extend_from_slice(b"ok\n")
         }
         Answer::ValueFault(fault, row) => put_named(text, arithmetic_words(fault), row),
@@ -74,22 +72,28 @@ fn put_answer(alloc: Global, text: &mut Bytes, answer: &Answer) -> Result<(), Ou
     }
 }
 
-fn put_reply(alloc: Global, text: &mut Bytes, reply: &Reply) -> Result<(), OutOfMemory>
-    requires { IsRegularReply reply.now }
-    ensures { OnOk result (text.new ≡ text.old ++ text_of_reply reply.now) }
+/// Puts the text of a reply, of whole lines, at the end. A reply that says out of memory has none.
+///
+/// # Errors
+///
+/// [`OutOfMemory`] where there is no memory for the text.
+pub fn put_reply(out: &mut Bytes, reply: &Reply) -> Result<(), OutOfMemory>
+    requires told { SaysOutOfMemory reply.now → ⊥ }
+    requires regular { IsRegularReply reply.now }
+    ensures { OnOk result (out.new ≡ out.old ++ text_of_reply reply.now) }
 {
     match reply {
-        Reply::Fine => text.extend_from_slice(b"ok\n"),
-        Reply::Line(fault) => put_line_fault(text, fault),
-        Reply::Edit(fault) => put_edit_fault(text, fault),
-        Reply::History(fault) => put_history_fault(text, fault),
-        Reply::Mark(fault) => put_mark_fault(text, fault),
-        Reply::Ask(fault) => put_ask_fault(text, fault),
-        Reply::Said(answer) => put_answer(alloc, text, answer),
+        Reply::Fine => out.extend_from_slice(b"ok\n"),
+        Reply::Line(fault) => put_line_fault(out, fault),
+        Reply::Edit(fault) => put_edit_fault(out, fault),
+        Reply::History(fault) => put_history_fault(out, fault),
+        Reply::Mark(fault) => put_mark_fault(out, fault),
+        Reply::Ask(fault) => put_ask_fault(out, fault),
+        Reply::Said(answer) => put_answer(out, answer),
     }
 }
 
-/// The text of a reply, of whole lines. A reply that says out of memory has none.
+/// The text of a reply, as [`put_reply`] puts it.
 ///
 /// # Errors
 ///
@@ -100,6 +104,6 @@ pub fn print_reply(alloc: Global, reply: &Reply) -> Result<Bytes, OutOfMemory>
     ensures { IfOk result (λ text. text ≡ text_of_reply reply.now) }
 {
     let mut text = Bytes::new(alloc)?;
-    put_reply(alloc, &mut text, reply)?;
+    put_reply(&mut text, reply)?;
     Ok(text)
 }

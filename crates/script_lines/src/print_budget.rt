@@ -9,10 +9,9 @@ use budget_table::BudgetLine;
 use fixed_interval::Span;
 use formula_ast::Name;
 use line_text::{Bytes, OutOfMemory};
-use std::alloc::Global;
 
 /// Puts a line of a budget at the end.
-fn put_budget_line(alloc: Global, text: &mut Bytes, line: &BudgetLine) -> Result<(), OutOfMemory>
+fn put_budget_line(text: &mut Bytes, line: &BudgetLine) -> Result<(), OutOfMemory>
     ensures { OnOk result (text.new ≡ text.old ++ text_of_budget_line line.now) }
 {
     match line {
@@ -25,38 +24,33 @@ fn put_budget_line(alloc: Global, text: &mut Bytes, line: &BudgetLine) -> Result
         } => {
             put_asked(text, b"input", name)?;
             text.extend_from_slice(b" value")?;
-            put_ends(alloc, text, value)?;
+            put_ends(text, value)?;
             text.extend_from_slice(b" var")?;
-            put_ends(alloc, text, variance)?;
+            put_ends(text, variance)?;
             text.extend_from_slice(b" sens")?;
-            put_ends(alloc, text, sens)?;
+            put_ends(text, sens)?;
             text.extend_from_slice(b" own")?;
-            put_span(alloc, text, own)
+            put_span(text, own)
         }
         BudgetLine::Group { name, variance } => {
             put_asked(text, b"group", name)?;
-            put_span(alloc, text, variance)
+            put_span(text, variance)
         }
     }
 }
 
 /// Puts the lines of a budget at the end.
-fn put_budget_lines(
-    alloc: Global,
-    text: &mut Bytes,
-    lines: &[BudgetLine],
-) -> Result<(), OutOfMemory>
+fn put_budget_lines(text: &mut Bytes, lines: &[BudgetLine]) -> Result<(), OutOfMemory>
     ensures { OnOk result (text.new ≡ text.old ++ text_of_budget_lines lines.now) }
 {
     for line in lines {
-        put_budget_line(alloc, text, line)?;
+        put_budget_line(text, line)?;
     }
     Ok(())
 }
 
 /// Puts the lines of a budget, and then the variance of its quantity, at the end.
 pub(crate) fn put_budget(
-    alloc: Global,
     text: &mut Bytes,
     lines: &[BudgetLine],
     name: &Name,
@@ -64,7 +58,7 @@ pub(crate) fn put_budget(
 ) -> Result<(), OutOfMemory>
     ensures { OnOk result (text.new ≡ text.old ++ text_of_answer (Answer.Budget lines.now name.now variance.now)) }
 {
-    put_budget_lines(alloc, text, lines)?;
+    put_budget_lines(text, lines)?;
     put_asked(text, b"budget", name)?;
-    put_span(alloc, text, variance)
+    put_span(text, variance)
 }

@@ -13,8 +13,7 @@ use formula_ast::Name;
 use guard_band::{Condition, Said};
 use itoa::Buffer;
 use line_text::{Bytes, OutOfMemory};
-use round_out::{CorrSaid, Reported, print_at};
-use std::alloc::Global;
+use round_out::{CorrSaid, Reported, put_at};
 use table_g2::DofSaid;
 
 /// Puts the word of a query, or of a line of its answer, and the name that stands after it at the end.
@@ -40,41 +39,26 @@ fn put_asked_two(
     text.extend_from_slice(second.as_bytes())
 }
 
-/// Puts a number at the end.
-fn put_number(alloc: Global, text: &mut Bytes, number: Dec) -> Result<(), OutOfMemory>
-    ensures { OnOk result (text.new ≡ text.old ++ text_of number) }
-{
-    text.extend_from_slice(number.print(alloc)?.as_slice())
-}
-
-/// Puts `c` units of 10^`e` at the end.
-fn put_at(alloc: Global, text: &mut Bytes, c: i128, e: i8) -> Result<(), OutOfMemory>
-    ensures { OnOk result (text.new ≡ text.old ++ text_at c e) }
-{
-    text.extend_from_slice(print_at(alloc, c, e)?.as_slice())
-}
-
 /// Puts the ends of an interval at the end.
-pub(crate) fn put_ends(alloc: Global, text: &mut Bytes, span: &Span) -> Result<(), OutOfMemory>
+pub(crate) fn put_ends(text: &mut Bytes, span: &Span) -> Result<(), OutOfMemory>
     ensures { OnOk result (text.new ≡ text.old ++ text_of_ends span.now) }
 {
     text.extend_from_slice(b" ")?;
-    put_number(alloc, text, span.lo())?;
+    span.lo().put(text)?;
     text.extend_from_slice(b" ")?;
-    put_number(alloc, text, span.hi())
+    span.hi().put(text)
 }
 
 /// Puts the ends of an interval at the end, and ends the line.
-pub(crate) fn put_span(alloc: Global, text: &mut Bytes, span: &Span) -> Result<(), OutOfMemory>
+pub(crate) fn put_span(text: &mut Bytes, span: &Span) -> Result<(), OutOfMemory>
     ensures { OnOk result (text.new ≡ text.old ++ text_of_span span.now) }
 {
-    put_ends(alloc, text, span)?;
+    put_ends(text, span)?;
     text.extend_from_slice(b"\n")
 }
 
 /// Puts an interval of a quantity at the end.
 pub(crate) fn put_span_of(
-    alloc: Global,
     text: &mut Bytes,
     word: &[u8],
     name: &Name,
@@ -83,12 +67,11 @@ pub(crate) fn put_span_of(
     ensures { OnOk result (text.new ≡ text.old ++ asked_of word.now name.now ++ text_of_span span.now) }
 {
     put_asked(text, word, name)?;
-    put_span(alloc, text, span)
+    put_span(text, span)
 }
 
 /// Puts an interval of two quantities, or of a quantity and an input, at the end.
 pub(crate) fn put_span_of_two(
-    alloc: Global,
     text: &mut Bytes,
     word: &[u8],
     first: &Name,
@@ -98,23 +81,22 @@ pub(crate) fn put_span_of_two(
     ensures { OnOk result (text.new ≡ text.old ++ asked_of_two word.now first.now second.now ++ text_of_span span.now) }
 {
     put_asked_two(text, word, first, second)?;
-    put_span(alloc, text, span)
+    put_span(text, span)
 }
 
 /// Puts what is said of a correlation coefficient at the end.
-fn put_coefficient(alloc: Global, text: &mut Bytes, said: &CorrSaid) -> Result<(), OutOfMemory>
+fn put_coefficient(text: &mut Bytes, said: &CorrSaid) -> Result<(), OutOfMemory>
     ensures { OnOk result (text.new ≡ text.old ++ text_of_coefficient said.now) }
 {
     match said {
         CorrSaid::None => text.extend_from_slice(b"none"),
         CorrSaid::Unsettled => text.extend_from_slice(b"undecided"),
-        CorrSaid::Hundredths(d) => put_at(alloc, text, *d as i128, -2),
+        CorrSaid::Hundredths(d) => put_at(text, *d as i128, -2),
     }
 }
 
 /// Puts the correlation coefficient of two quantities at the end.
 pub(crate) fn put_correlation(
-    alloc: Global,
     text: &mut Bytes,
     first: &Name,
     second: &Name,
@@ -124,7 +106,7 @@ pub(crate) fn put_correlation(
 {
     put_asked_two(text, b"r", first, second)?;
     text.extend_from_slice(b" ")?;
-    put_coefficient(alloc, text, said)?;
+    put_coefficient(text, said)?;
     text.extend_from_slice(b"\n")
 }
 
@@ -152,60 +134,45 @@ pub(crate) fn put_degrees(text: &mut Bytes, name: &Name, said: &DofSaid) -> Resu
 }
 
 /// Puts an estimate and its uncertainty, which has this letter, at the end.
-fn put_reported(
-    alloc: Global,
-    text: &mut Bytes,
-    letter: &[u8],
-    said: &Reported,
-) -> Result<(), OutOfMemory>
+fn put_reported(text: &mut Bytes, letter: &[u8], said: &Reported) -> Result<(), OutOfMemory>
     ensures { OnOk result (text.new ≡ text.old ++ text_of_reported letter.now said.now) }
 {
     match said {
         Reported::Exact(estimate) => {
-            put_number(alloc, text, *estimate)?;
+            estimate.put(text)?;
             text.extend_from_slice(b" ")?;
             text.extend_from_slice(letter)?;
             text.extend_from_slice(b" 0")
         }
         Reported::Rounded { estimate, m, e } => {
-            put_at(alloc, text, *estimate, *e)?;
+            put_at(text, *estimate, *e)?;
             text.extend_from_slice(b" ")?;
             text.extend_from_slice(letter)?;
             text.extend_from_slice(b" ")?;
-            put_at(alloc, text, *m as i128, *e)
+            put_at(text, *m as i128, *e)
         }
         Reported::Unsettled => text.extend_from_slice(b"undecided"),
     }
 }
 
 /// Puts a quantity and its standard uncertainty at the end.
-pub(crate) fn put_report(
-    alloc: Global,
-    text: &mut Bytes,
-    name: &Name,
-    said: &Reported,
-) -> Result<(), OutOfMemory>
+pub(crate) fn put_report(text: &mut Bytes, name: &Name, said: &Reported) -> Result<(), OutOfMemory>
     ensures { OnOk result (text.new ≡ text.old ++ text_of_answer (Answer.Report name.now said.now)) }
 {
     put_asked(text, b"report", name)?;
     text.extend_from_slice(b" ")?;
-    put_reported(alloc, text, b"u", said)?;
+    put_reported(text, b"u", said)?;
     text.extend_from_slice(b"\n")
 }
 
 /// Puts the coverage factor of an expanded uncertainty at the end, where that is settled.
-fn put_factor(
-    alloc: Global,
-    text: &mut Bytes,
-    said: &Reported,
-    factor: Dec,
-) -> Result<(), OutOfMemory>
+fn put_factor(text: &mut Bytes, said: &Reported, factor: Dec) -> Result<(), OutOfMemory>
     ensures { OnOk result (text.new ≡ text.old ++ text_of_factor said.now factor) }
 {
     match said {
         Reported::Exact(_) | Reported::Rounded { .. } => {
             text.extend_from_slice(b" k ")?;
-            put_number(alloc, text, factor)
+            factor.put(text)
         }
         Reported::Unsettled => Ok(()),
     }
@@ -213,7 +180,6 @@ fn put_factor(
 
 /// Puts a quantity, its expanded uncertainty and the coverage factor at the end.
 pub(crate) fn put_expanded(
-    alloc: Global,
     text: &mut Bytes,
     name: &Name,
     said: &Reported,
@@ -223,8 +189,8 @@ pub(crate) fn put_expanded(
 {
     put_asked(text, b"expanded", name)?;
     text.extend_from_slice(b" ")?;
-    put_reported(alloc, text, b"U", said)?;
-    put_factor(alloc, text, said, factor)?;
+    put_reported(text, b"U", said)?;
+    put_factor(text, said, factor)?;
     text.extend_from_slice(b"\n")
 }
 

@@ -15,6 +15,6 @@ returns-in-Some g c =
     let last : items_of c.args.splitter ≡ c.in-Some.item ∷ [] =
     subst (λ o. IfSome o (λ item. items_of c.args.splitter ≡ item ∷ [])) c.in-Some.is c.in_ok-item.ensures.some in
     on_ok c.answer_item.result
-    (λ h. sym (append-nil c.answer_item.new.replies.items) ∙ h
-    ∙ ap (λ items. c.args.replies.now.items ++ text_of_replies (replies_to (state_of c.args.session.now) items)) (sym last))
+    (λ h. sym (append-nil c.answer_item.new.replies) ∙ h
+    ∙ ap (λ items. c.args.replies.now ++ text_of_replies (replies_to (state_of c.args.session.now) items)) (sym last))
     (c.answer_item.ensures.replies [])

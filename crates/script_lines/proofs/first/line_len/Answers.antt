@@ -1,10 +1,14 @@
-use Rattle.formula_ast.proofs.Cuts.{cut_nowhere}
-use Rattle.script_lines.proofs.LineParts.{more_parts}
+use Rattle.script_lines.proofs.LineParts.{line_found, line_within, line_fed, no_line_found}
 use Rattle.script_lines.proofs.first.line_len.Goals as goal
 
-pub returns-then-byte-eq10-clause-more : goal.returns-then-byte-eq10-clause-more
-returns-then-byte-eq10-clause-more c =
-    more_parts _ _ c.loop-i-test.true (record { free = c.loop-i.invariant }) c.if-byte-eq10.true
+pub returns-clause-more : goal.returns-clause-more
+returns-clause-more c = line_found c.args.text.now c.memchr.result c.memchr.ensures
+
+pub returns-clause-within : goal.returns-clause-within
+returns-clause-within c = line_within c.args.text.now c.memchr.result c.memchr.ensures
+
+pub returns-clause-feed : goal.returns-clause-feed
+returns-clause-feed c = line_fed c.args.text.now c.memchr.result c.memchr.ensures
 
 pub returns-clause-none : goal.returns-clause-none
-returns-clause-none c = cut_nowhere _ _ _ c.loop-i-test.false (record { free = c.loop-i.invariant })
+returns-clause-none c = no_line_found c.args.text.now c.memchr.result c.memchr.ensures
