@@ -11,7 +11,7 @@ use Rattle.formula_ast.specs.declared.machine.State.TheVariants.{Operand, Atom, 
 
 abbrev pub left_of : Option Left → Option (Tree × Sign)
 left_of None = None
-left_of (Some l) = Some (tree_of l.operand, l.sign)
+left_of (Some l) = Some (tree_of l.operand.value, l.sign)
 
 abbrev pub waiting_of : Level → Waiting Tree
 waiting_of l = record { added = left_of l.added; multiplied = left_of l.multiplied; minuses = l.minuses; base = l.base }
@@ -23,9 +23,9 @@ outside (l ∷ ls) = outside ls ++ waiting_of l ∷ []
 
 abbrev pub stage_on : State → List (Waiting Tree) → Stage Tree
 stage_on (Operand l) o = AtOperand (waiting_of l) o
-stage_on (Atom l x) o = AtAtom (waiting_of l) (tree_of x) o
-stage_on (End b left x) o = AtEnd b (left_of left) (tree_of x) o
-stage_on (Exponent l x minus) o = AtExponent (waiting_of l) (tree_of x) minus o
+stage_on (Atom l x) o = AtAtom (waiting_of l) (tree_of x.value) o
+stage_on (End b left x) o = AtEnd b (left_of left) (tree_of x.value) o
+stage_on (Exponent l x minus) o = AtExponent (waiting_of l) (tree_of x.value) minus o
 
 abbrev pub stage_of : State → List Level → Stage Tree
 stage_of s ls = stage_on s (outside ls)

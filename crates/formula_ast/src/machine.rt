@@ -19,7 +19,7 @@ use std::alloc::Global;
 /// A left operand and its operator.
 #[derive(Drop)]
 pub struct Left {
-    operand: Formula,
+    operand: Box<Formula>,
     sign: Sign,
 }
 
@@ -39,11 +39,11 @@ pub enum State {
     /// An operand.
     Operand(Level),
     /// After an atom: `^`, or what may follow a power.
-    Atom(Level, Formula),
+    Atom(Level, Box<Formula>),
     /// After a factor, with the nesting outside and the left operand of a sum.
-    End(u8, Option<Left>, Formula),
+    End(u8, Option<Left>, Box<Formula>),
     /// An exponent, after its minus or not.
-    Exponent(Level, Formula, bool),
+    Exponent(Level, Box<Formula>, bool),
 }
 
 impl Level {
@@ -70,22 +70,28 @@ impl State {
 }
 
 /// The formula of two operands and their operator.
-fn join(alloc: Global, left: Left, right: Formula) -> Result<Formula, OutOfMemory>
-    ensures { IfOk result (λ f. tree_of f ≡ Joined left.sign (tree_of left.operand) (tree_of right)) }
+fn joined(left: Left, right: Box<Formula>) -> Formula
+    ensures { tree_of result ≡ Joined left.sign (tree_of left.operand.value) (tree_of right.value) }
 {
-    let a = Box::new(alloc, left.operand)?;
-    let b = Box::new(alloc, right)?;
-    Ok(match left.sign {
-        Sign::Plus => Formula::Add(a, b),
-        Sign::Minus => Formula::Sub(a, b),
-        Sign::Times => Formula::Mul(a, b),
-        Sign::Over => Formula::Div(a, b),
-    })
+    let operand = left.operand;
+    match left.sign {
+        Sign::Plus => Formula::Add(operand, right),
+        Sign::Minus => Formula::Sub(operand, right),
+        Sign::Times => Formula::Mul(operand, right),
+        Sign::Over => Formula::Div(operand, right),
+    }
+}
+
+/// The formula of two operands and their operator, allocated.
+fn join(alloc: Global, left: Left, right: Box<Formula>) -> Result<Box<Formula>, OutOfMemory>
+    ensures { IfOk result (λ f. tree_of f.value ≡ Joined left.sign (tree_of left.operand.value) (tree_of right.value)) }
+{
+    Ok(Box::new(alloc, joined(left, right))?)
 }
 
 /// The formula as the right operand of the left one that waits for it, if any.
-fn put(alloc: Global, left: Option<Left>, right: Formula) -> Result<Formula, OutOfMemory>
-    ensures { IfOk result (λ f. tree_of f ≡ put trees (left_of left) (tree_of right)) }
+fn put(alloc: Global, left: Option<Left>, right: Box<Formula>) -> Result<Box<Formula>, OutOfMemory>
+    ensures { IfOk result (λ f. tree_of f.value ≡ put trees (left_of left) (tree_of right.value)) }
 {
     match left {
         None => Ok(right),
@@ -95,14 +101,14 @@ fn put(alloc: Global, left: Option<Left>, right: Formula) -> Result<Formula, Out
 
 /// The formula after so many minuses.
 #[tactic(auto, using(crate::proofs::Levels::negated_less))]
-fn negated(alloc: Global, minuses: u8, operand: Formula) -> Result<Formula, OutOfMemory>
-    ensures { IfOk result (λ f. tree_of f ≡ negated trees minuses (tree_of operand)) }
+fn negated(alloc: Global, minuses: u8, operand: Box<Formula>) -> Result<Box<Formula>, OutOfMemory>
+    ensures { IfOk result (λ f. tree_of f.value ≡ negated trees minuses (tree_of operand.value)) }
 {
     let mut formula = operand;
     let mut left = minuses;
     while left > 0 {
         left -= 1;
-        formula = Formula::Neg(Box::new(alloc, formula)?);
+        formula = Box::new(alloc, Formula::Neg(formula))?;
     }
     Ok(formula)
 }
@@ -112,9 +118,9 @@ fn factor_done(
     alloc: Global,
     minuses: u8,
     multiplied: Option<Left>,
-    power: Formula,
-) -> Result<Formula, OutOfMemory>
-    ensures { IfOk result (λ f. tree_of f ≡ put trees (left_of multiplied) (negated trees minuses (tree_of power))) }
+    power: Box<Formula>,
+) -> Result<Box<Formula>, OutOfMemory>
+    ensures { IfOk result (λ f. tree_of f.value ≡ put trees (left_of multiplied) (negated trees minuses (tree_of power.value))) }
 {
     let factor = negated(alloc, minuses, power)?;
     put(alloc, multiplied, factor)
@@ -141,11 +147,11 @@ fn signed_on(
     alloc: Global,
     base: u8,
     added: Option<Left>,
-    operand: Formula,
+    operand: Box<Formula>,
     sign: Sign,
 ) -> Result<State, OutOfMemory>
     ensures { IfOk result (λ s. (o : List (Waiting Tree)) →
-        stage_on s o ≡ signed_on trees base (left_of added) (tree_of operand) o sign) }
+        stage_on s o ≡ signed_on trees base (left_of added) (tree_of operand.value) o sign) }
 {
     match sign {
         Sign::Times | Sign::Over => Ok(State::Operand(Level {
@@ -171,11 +177,11 @@ fn signed_on(
 fn closed(
     alloc: Global,
     added: Option<Left>,
-    operand: Formula,
+    operand: Box<Formula>,
     outer: &mut Vec<Level>,
 ) -> Result<Option<State>, OutOfMemory>
     ensures { IfOk result (λ r. option_map (λ s. stage_of s outer.new.items) r
-        ≡ closed (put trees (left_of added) (tree_of operand)) (outside outer.old.items)) }
+        ≡ closed (put trees (left_of added) (tree_of operand.value)) (outside outer.old.items)) }
 {
     let group = put(alloc, added, operand)?;
     match outer.pop() {
@@ -189,12 +195,12 @@ fn after(
     alloc: Global,
     base: u8,
     added: Option<Left>,
-    factor: Formula,
+    factor: Box<Formula>,
     outer: &mut Vec<Level>,
     kind: &Kind,
 ) -> Result<Option<State>, OutOfMemory>
     ensures { IfOk result (λ r. option_map (λ s. stage_of s outer.new.items) r
-        ≡ after trees base (left_of added) (tree_of factor) (outside outer.old.items) kind.now) }
+        ≡ after trees base (left_of added) (tree_of factor.value) (outside outer.old.items) kind.now) }
 {
     match kind {
         Kind::Joins(sign) => Ok(Some(signed_on(alloc, base, added, factor, *sign)?)),
@@ -229,21 +235,24 @@ fn opened(level: Level, outer: &mut Vec<Level>) -> Result<State, OutOfMemory>
 }
 
 /// The state after a number.
-fn number_read(level: Level, value: Option<Dec>) -> State
-    ensures { (o : List (Waiting Tree)) → stage_on result o ≡ AtAtom (waiting_of level) (Number (number_of value)) o }
+fn number_read(alloc: Global, level: Level, value: Option<Dec>) -> Result<State, OutOfMemory>
+    ensures { IfOk result (λ s. (o : List (Waiting Tree)) → stage_on s o ≡ AtAtom (waiting_of level) (Number (number_of value)) o) }
 {
-    State::Atom(level, Formula::Num(number_of(value)))
+    let number = Box::new(alloc, Formula::Num(number_of(value)))?;
+    Ok(State::Atom(level, number))
 }
 
 /// The state after a name.
-fn name_read(level: Level, name: &Name) -> State
-    ensures { (o : List (Waiting Tree)) → stage_on result o ≡ AtAtom (waiting_of level) (Variable name.now) o }
+fn name_read(alloc: Global, level: Level, name: &Name) -> Result<State, OutOfMemory>
+    ensures { IfOk result (λ s. (o : List (Waiting Tree)) → stage_on s o ≡ AtAtom (waiting_of level) (Variable name.now) o) }
 {
-    State::Atom(level, Formula::Var(*name))
+    let variable = Box::new(alloc, Formula::Var(*name))?;
+    Ok(State::Atom(level, variable))
 }
 
 /// The state after a token where an operand may come.
 fn operand_step(
+    alloc: Global,
     level: Level,
     outer: &mut Vec<Level>,
     kind: &Kind,
@@ -253,8 +262,8 @@ fn operand_step(
         ≡ step trees (AtOperand (waiting_of level) (outside outer.old.items)) kind.now) }
 {
     match kind {
-        Kind::Number(value, _) => Ok(Some(number_read(level, *value))),
-        Kind::Name(name) => Ok(Some(name_read(level, name))),
+        Kind::Number(value, _) => Ok(Some(number_read(alloc, level, *value)?)),
+        Kind::Name(name) => Ok(Some(name_read(alloc, level, name)?)),
         Kind::Joins(Sign::Minus) => Ok(Some(State::Operand(minused(level)))),
         Kind::Open => Ok(Some(opened(level, outer)?)),
         _ => Ok(None),
@@ -265,12 +274,12 @@ fn operand_step(
 fn atom_step(
     alloc: Global,
     level: Level,
-    atom: Formula,
+    atom: Box<Formula>,
     outer: &mut Vec<Level>,
     kind: &Kind,
 ) -> Result<Option<State>, OutOfMemory>
     ensures { IfOk result (λ r. option_map (λ s. stage_of s outer.new.items) r
-        ≡ step trees (AtAtom (waiting_of level) (tree_of atom) (outside outer.old.items)) kind.now) }
+        ≡ step trees (AtAtom (waiting_of level) (tree_of atom.value) (outside outer.old.items)) kind.now) }
 {
     match kind {
         Kind::Hat => Ok(Some(State::Exponent(level, atom, false))),
@@ -286,17 +295,17 @@ fn atom_step(
 fn exponent_step(
     alloc: Global,
     level: Level,
-    base: Formula,
+    base: Box<Formula>,
     minus: bool,
     kind: &Kind,
 ) -> Result<Option<State>, OutOfMemory>
     requires { IsSmall kind.now }
     ensures { IfOk result (λ r. (o : List (Waiting Tree)) → option_map (λ s. stage_on s o) r
-        ≡ step trees (AtExponent (waiting_of level) (tree_of base) minus o) kind.now) }
+        ≡ step trees (AtExponent (waiting_of level) (tree_of base.value) minus o) kind.now) }
 {
     match kind {
         Kind::Number(_, power) => {
-            let raised = Formula::Pow(Box::new(alloc, base)?, exponent_of(minus, *power));
+            let raised = Box::new(alloc, Formula::Pow(base, exponent_of(minus, *power)))?;
             let factor = factor_done(alloc, level.minuses, level.multiplied, raised)?;
             Ok(Some(State::End(level.base, level.added, factor)))
         }
@@ -327,7 +336,7 @@ pub fn step(
         ≡ step trees (stage_of state outer.old.items) kind.now) }
 {
     match state {
-        State::Operand(level) => operand_step(level, outer, kind),
+        State::Operand(level) => operand_step(alloc, level, outer, kind),
         State::Atom(level, atom) => atom_step(alloc, level, atom, outer, kind),
         State::End(base, added, factor) => after(alloc, base, added, factor, outer, kind),
         State::Exponent(level, base, minus) => exponent_step(alloc, level, base, minus, kind),
@@ -340,8 +349,12 @@ pub fn step(
 ///
 /// [`OutOfMemory`] where there is no memory for what is put together.
 #[tactic(auto, using(crate::proofs::Levels::never_finished))]
-pub fn finish(alloc: Global, state: State, outer: &[Level]) -> Result<Option<Formula>, OutOfMemory>
-    ensures { IfOk result (λ r. option_map tree_of r ≡ finish trees (stage_of state outer.now)) }
+pub fn finish(
+    alloc: Global,
+    state: State,
+    outer: &[Level],
+) -> Result<Option<Box<Formula>>, OutOfMemory>
+    ensures { IfOk result (λ r. option_map (λ f. tree_of f.value) r ≡ finish trees (stage_of state outer.now)) }
 {
     if !outer.is_empty() {
         discard(state);

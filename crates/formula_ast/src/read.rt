@@ -59,5 +59,5 @@ fn read_whole(alloc: Global, text: &[u8]) -> Result<Formula, FormulaFault>
     let Some(formula) = finish(alloc, state, outer.as_slice())? else {
         return Err(FormulaFault::Syntax(end));
     };
-    Ok(formula)
+    Ok(Box::into_inner(formula))
 }
