@@ -4,3 +4,4 @@ pub mod LineAnswers
 pub mod BlockAnswers
 pub mod RegularLines
 pub mod NoMemory
+pub mod OpeningLines

@@ -1,12 +1,12 @@
 //! Which lines open a table block, and which end one.
 
-ghost use Rattle.std.specs.Prelude.{◌≡◌, ◌≤◌, length};
+ghost use Rattle.std.specs.Prelude.{◌≡◌, ◌≤◌, ◌||◌, length, take, bytes_eq, codes};
 ghost use Rattle.std.specs.List.{prefix_len, list_all};
 ghost use Rattle.line_text.specs.Words.{words_left};
 ghost use Rattle.script_lines.specs.Blocks.{begin_table, words_open, opens_block, is_padding, is_end, ends_block};
 
 use crate::verb::SET;
-use line_text::{Words, after, is_blank, written_part};
+use line_text::{Words, after, is_blank, skip_blanks, written_part};
 use row_text::TABLE;
 
 /// Whether the next word is `table`.
@@ -29,10 +29,21 @@ fn words_open(mut words: Words<'_>) -> bool
     first.text == TABLE || first.text == SET && begin_table(words)
 }
 
+/// Whether the text begins with the bytes of `table` or of `set`.
+fn begins_to_open(text: &[u8]) -> bool
+    ensures { result ≡ (bytes_eq (codes "table") (take 5 text.now) || bytes_eq (codes "set") (take 3 text.now)) }
+{
+    text.starts_with(TABLE) || text.starts_with(SET)
+}
+
 /// Whether the line opens a block.
 pub(crate) fn opens_block(line: &[u8]) -> bool
     ensures { result ≡ opens_block line.now }
 {
+    // Most lines begin otherwise, and are looked through no further.
+    if !begins_to_open(skip_blanks(line)) {
+        return false;
+    }
     words_open(Words::from(written_part(line), 0))
 }
 
